@@ -1,4 +1,8 @@
 // Rows and trays on examples: round the end, full, empty, and a single place.
+ghost use mathlib.Core.Path.{_≡_};
+ghost use mathlib.Core.Bool.{cond};
+ghost use Rattle.std.specs.Results.{isOk};
+ghost use lib.ListN.{set};
 use crate::cursor::Cursor;
 use crate::cursor::Full;
 use crate::cursor::FullDebug;
@@ -47,6 +51,21 @@ fn a_row_without_slots_is_full_and_empty() -> Result<(), Fail> {
     let mut cursor = Cursor { first: 0, count: 0 };
     check_eq(row::put(&mut slots, &mut cursor, 5), Err(Full))?;
     check_eq(row::take(&mut slots, &mut cursor), None)
+}
+
+// Lends its slots to a tray, and states what they hold when the tray has ended.
+fn lends(slots: &mut [u32], x: u32) -> Result<(), Full>
+    ensures { λ r. ⌜ now (slots .exit) ≡ cond (isOk r) (set (now (slots .entry)) 0 x) (now (slots .entry)) ⌝ }
+{
+    let mut tray = Tray::new(slots);
+    tray.put(x)
+}
+
+#[test]
+fn a_lender_has_its_slots_back() -> Result<(), Fail> {
+    let mut slots = [7, 8];
+    check_eq(lends(&mut slots, 42), Ok(()))?;
+    check_eq(slots, [42, 8])
 }
 
 // The tray ends, and the caller reads its own place.
