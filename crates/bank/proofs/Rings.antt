@@ -116,7 +116,7 @@ depth-16 lanes q h = each-lane (λ u. u .depth ≡ 16) (λ l. refl) lanes q h
 pub ring-sound : (ring : Ring) → Sound (ring-queues ring)
 ring-sound ring = record {
   ten = length-map (ring .lanes) lane-queue ∙ ring .ten;
-  deep = λ q h. each-lane (λ u. 1 ≤ u .depth) (λ l. omega arith) (ring .lanes) q (omega (arith, ring .ten));
+  least = λ q h. each-lane (λ u. 1 ≤ u .depth) (λ l. omega arith) (ring .lanes) q (omega (arith, ring .ten));
   most = λ q. each-number (λ u. u .depth ≤ 4096) (omega arith) (λ l. omega arith) (ring .lanes) q;
   fits = λ q. each-number (λ u. length (u .words) ≤ u .depth) (omega arith) (λ l. omega (arith, length-waiting (l .slots) (l .cursor), l .sixteen)) (ring .lanes) q;
 }

@@ -62,6 +62,6 @@ wiped u = with-words u []
 -- The law of every bank.
 pub record Sound (qs : List Queue) : Type 0 where
   pub ten : length qs ≡ 10
-  pub deep : (q : ℕ) → q < 10 → 1 ≤ at qs q .depth
+  pub least : (q : ℕ) → q < 10 → 1 ≤ at qs q .depth
   pub most : (q : ℕ) → at qs q .depth ≤ 4096
   pub fits : (q : ℕ) → length (at qs q .words) ≤ at qs q .depth

@@ -25,7 +25,7 @@ module _ {T : Type 0} where
   abbrev pub full : ℕ → List T → Bool
   full size ws = eqb (length ws) size
 
-  -- a put appends, or refuses exactly when the row is full
+  -- a put appends, or refuses exactly when the row is full; `record {}` is the one value of `Full`
   abbrev pub put-answer : ℕ → List T → Result (Unit {0}) Full
   put-answer size ws = cond (full size ws) (Err (record {})) (Ok tt)
 

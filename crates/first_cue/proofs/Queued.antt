@@ -26,7 +26,7 @@ pub has-room : (qs : List Queue) → Sound qs → put-answer (clear qs) 0 ≡ Ok
 has-room [] s =
     let z : ⊥ = omega (arith, s .ten) in
     absurd z
-has-room (u ∷ us) s = cond-false (full (wiped u)) (Err Full) (Ok tt) (ne-eqb 0 (u .depth) (omega (arith, s .deep 0 (omega arith))))
+has-room (u ∷ us) s = cond-false (full (wiped u)) (Err Full) (Ok tt) (ne-eqb 0 (u .depth) (omega (arith, s .least 0 (omega arith))))
 
 pub cue-is-oldest : (qs : List Queue) (cue : ℕ) → Sound qs → take-answer (with-cue cue qs) 0 ≡ Ok cue
 cue-is-oldest [] cue s =

@@ -1,7 +1,7 @@
 // The state register: who owns a mailbox, and how many accesses and ticks are left to its owner.
 ghost use mathlib.Core.Path.{_≡_};
 ghost use Prim.Native.Nat.{_+_, _*_, _%_, _^_, _≤_};
-ghost use Rattle.rules.specs.Register.{managers, packed, unpacked, fallen, accessed, ticked};
+ghost use Rattle.rules.specs.Register.{unlimited, managers, packed, unpacked, fallen, accessed, ticked};
 
 // The limit and the time that never fall.
 pub const UNLIMITED: u16 = 4095;
@@ -26,8 +26,8 @@ fn fall(figure: u16) -> u16
 
 // Owner, limit and time side by side in a word, where limit and time fit their 12 bits.
 fn joined(owner: u8, limit: u16, time: u16) -> u32
-    requires limit { ⌜ limit ≤ 4095 ⌝ }
-    requires time { ⌜ time ≤ 4095 ⌝ }
+    requires limit { ⌜ limit ≤ unlimited ⌝ }
+    requires time { ⌜ time ≤ unlimited ⌝ }
     ensures word { λ r. ⌜ r ≡ owner * 2 ^ 24 + limit * 2 ^ 12 + time ⌝ }
     ensures parts { λ r. ⌜ unpacked r ≡ record { owner = owner; limit = limit; time = time } ⌝ }
 {
@@ -56,7 +56,7 @@ impl Register {
     // The register as one word. Where limit and time fit their 12 bits, nothing is lost.
     pub fn pack(self) -> u32
         ensures word { λ r. ⌜ r ≡ packed self ⌝ }
-        ensures back { λ r. ⌜ (self .limit ≤ 4095 → self .time ≤ 4095 → unpacked r ≡ self) ⌝ }
+        ensures back { λ r. ⌜ (self .limit ≤ unlimited → self .time ≤ unlimited → unpacked r ≡ self) ⌝ }
     {
         joined(
             self.owner,
