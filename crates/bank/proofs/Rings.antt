@@ -10,86 +10,64 @@ use Rattle.std.proofs.shelf.Lists.{getD-map, set-getD, map-set, getD-past, set-
 use Rattle.std.proofs.shelf.Tests.{cond-true, cond-false, ne-eqb}
 use Rattle.std.specs.Options.{okOr}
 use Rattle.std.specs.Results.{isOk}
-use Rattle.std.specs.declared.option.Option.the-variants.{Some, None}
 use Rattle.std.specs.declared.result.Result.{Result}
 use Rattle.std.specs.declared.result.Result.the-variants.{Ok, Err}
-use Rattle.fifo.specs.Row.{oldest as oldest-of, put-answer as row-answer, full as row-full, put-waiting, rest}
+use Rattle.fifo.specs.Row.{oldest as oldest-of, put-answer as row-answer, put-waiting, rest}
 use Rattle.fifo.specs.declared.cursor.Full.{Full as RowFull}
 use Rattle.fifo.proofs.Rows.{length-waiting}
 use Rattle.bank.specs.Queues.{Queue, Sound, at, change, full, empty, oldest, no-queue, put-answer, grown, take-answer, shrunk}
-use Rattle.bank.specs.Rings.{lane-words, lane-queue, lane-queues, ring-queues}
+use Rattle.bank.specs.Rings.{as-fault, lane-words, lane-queue, lane-queues, ring-queues}
 use Rattle.bank.specs.declared.bank.Fault.{Fault}
 use Rattle.bank.specs.declared.bank.Fault.the-variants.{Full, Empty}
 use Rattle.bank.specs.declared.ring.Lane.{Lane}
 use Rattle.bank.specs.declared.ring.Ring.{Ring}
 
--- A number that a lane has; `l` is any lane, the default of the look-up.
-module _ (lanes : List Lane) (q : ℕ) (l : Lane) (within : q < length lanes) where
-  pub at-lane : at (lane-queues lanes) q ≡ lane-queue (getD lanes q l)
-  at-lane = getD-map lane-queue lanes q l no-queue within
+-- The queue of a number that a lane has is that lane's; `l` is any lane, the default of the look-up.
+pub at-lane : (lanes : List Lane) (q : ℕ) (l : Lane) → q < length lanes → at (lane-queues lanes) q ≡ lane-queue (getD lanes q l)
+at-lane lanes q l within = getD-map lane-queue lanes q l no-queue within
 
-  -- a changed lane is a changed queue, and no other
-  pub change-lane : (m : Lane) (f : Queue → Queue) → lane-queue m ≡ f (lane-queue (getD lanes q l)) → lane-queues (set lanes q m) ≡ change f (lane-queues lanes) q
-  change-lane m f e = map-set lane-queue lanes q m ∙ ap (set (lane-queues lanes) q) (e ∙ ap f (sym at-lane))
-
-  -- a lane whose words are as they were
-  pub same-lane : (m : Lane) → lane-queue m ≡ lane-queue (getD lanes q l) → lane-queues (set lanes q m) ≡ lane-queues lanes
-  same-lane m e = change-lane m (λ u. u) e ∙ set-getD (lane-queues lanes) q no-queue
-
--- What a row answers tells whether it was full.
-not-full : (ws : List ℕ) (t : Unit {0}) → Ok t ≡ row-answer 16 ws → row-full 16 ws ≡ false
-not-full ws t = go (row-full 16 ws)
-  where
-    go : (b : Bool) → _≡_ {A = Result (Unit {0}) RowFull} (Ok t) (cond b (Err (record {})) (Ok tt)) → b ≡ false
-    go true e = let z : _≡_ {A = ℕ} 0 1 = cc in absurd (omega arith)
-    go false e = refl
-
-is-full : (ws : List ℕ) (f : RowFull) → Err f ≡ row-answer 16 ws → row-full 16 ws ≡ true
-is-full ws f = go (row-full 16 ws)
-  where
-    go : (b : Bool) → _≡_ {A = Result (Unit {0}) RowFull} (Err f) (cond b (Err (record {})) (Ok tt)) → b ≡ true
-    go true e = refl
-    go false e = let z : _≡_ {A = ℕ} 0 1 = cc in absurd (omega arith)
-
--- one lane after a call, `m`, as a queue
+-- an equation between words is one between queues of depth 16
 pub deep-16 : {ws vs : List ℕ} → ws ≡ vs → _≡_ {A = Queue} (record { depth = 16; words = ws }) (record { depth = 16; words = vs })
 deep-16 e = cc
 
-module _ (lanes : List Lane) (q : ℕ) (l m : Lane) (within : q < length lanes) where
-  pub put-accepted : (word : ℕ) (t : Unit {0}) → Ok t ≡ row-answer 16 (lane-words (getD lanes q l)) → lane-words m ≡ put-waiting 16 (lane-words (getD lanes q l)) word
-      → (Ok tt ≡ put-answer (lane-queues lanes) q) × (lane-queues (set lanes q m) ≡ change (grown word) (lane-queues lanes) q)
-  put-accepted word t a e =
-      let b : full (lane-queue (getD lanes q l)) ≡ false = not-full (lane-words (getD lanes q l)) t a in (
-        sym (cond-false (full (at (lane-queues lanes) q)) (Err Full) (Ok tt) (ap full (at-lane lanes q l within) ∙ b)),
-        change-lane lanes q l within m (grown word) (deep-16 (e ∙ cond-false (full (lane-queue (getD lanes q l))) _ _ b)),
-      )
+-- A call finds `lane` as queue q, and leaves `after` in its place.
+module _ (lanes : List Lane) (q : ℕ) (lane after : Lane) (found : at (lane-queues lanes) q ≡ lane-queue lane) where
+  -- a changed lane is a changed queue, and no other
+  pub change-lane : (f : Queue → Queue) → lane-queue after ≡ f (lane-queue lane) → lane-queues (set lanes q after) ≡ change f (lane-queues lanes) q
+  change-lane f e = map-set lane-queue lanes q after ∙ ap (set (lane-queues lanes) q) (e ∙ ap f (sym found))
 
-  pub put-refused : (word : ℕ) (f : RowFull) → Err f ≡ row-answer 16 (lane-words (getD lanes q l)) → lane-words m ≡ put-waiting 16 (lane-words (getD lanes q l)) word
-      → (Err Full ≡ put-answer (lane-queues lanes) q) × (lane-queues (set lanes q m) ≡ lane-queues lanes)
-  put-refused word f a e =
-      let b : full (lane-queue (getD lanes q l)) ≡ true = is-full (lane-words (getD lanes q l)) f a in (
-        sym (cond-true (full (at (lane-queues lanes) q)) (Err Full) (Ok tt) (ap full (at-lane lanes q l within) ∙ b)),
-        same-lane lanes q l within m (deep-16 (e ∙ cond-true (full (lane-queue (getD lanes q l))) _ _ b)),
-      )
+  -- a lane with the same words is no change
+  same-lane : lane-words after ≡ lane-words lane → lane-queues (set lanes q after) ≡ lane-queues lanes
+  same-lane e = change-lane (λ u. u) (deep-16 e) ∙ set-getD (lane-queues lanes) q no-queue
 
-  pub take-answered : okOr (oldest-of (lane-words (getD lanes q l))) Empty ≡ take-answer (lane-queues lanes) q
-  take-answered = told (lane-words (getD lanes q l)) ∙ sym (ap queue-told (at-lane lanes q l within))
+  pub put-done : (word : ℕ) (r : Result (Unit {0}) Fault) → r ≡ as-fault (row-answer 16 (lane-words lane)) → lane-words after ≡ put-waiting 16 (lane-words lane) word
+      → (r ≡ put-answer (lane-queues lanes) q) × (lane-queues (set lanes q after) ≡ cond (isOk r) (change (grown word) (lane-queues lanes) q) (lane-queues lanes))
+  put-done word r = go (full (lane-queue lane)) (ap full found)
     where
-      queue-told : Queue → Result ℕ Fault
-      queue-told u = cond (empty u) (Err Empty) (Ok (oldest u))
+      done : Result (Unit {0}) Fault → List Queue
+      done t = cond (isOk t) (change (grown word) (lane-queues lanes) q) (lane-queues lanes)
 
-      told : (ws : List ℕ) → okOr (oldest-of ws) Empty ≡ cond (eqb (length ws) 0) (Err Empty) (Ok (getD ws 0 0))
-      told [] = refl
-      told (w ∷ ws) = sym (cond-false (eqb (length (w ∷ ws)) 0) _ _ (ne-eqb (length (w ∷ ws)) 0 (omega arith)))
+      go : (b : Bool) → full (at (lane-queues lanes) q) ≡ b → r ≡ as-fault (cond b (Err (record {})) (Ok tt)) → lane-words after ≡ cond b (lane-words lane) (lane-words lane ++ word ∷ [])
+          → (r ≡ put-answer (lane-queues lanes) q) × (lane-queues (set lanes q after) ≡ done r)
+      go true h t e = (t ∙ sym (cond-true (full (at (lane-queues lanes) q)) (Err Full) (Ok tt) h), same-lane e ∙ ap done (sym t))
+      go false h t e = (t ∙ sym (cond-false (full (at (lane-queues lanes) q)) (Err Full) (Ok tt) h), change-lane (grown word) (deep-16 e) ∙ ap done (sym t))
 
-  -- an empty lane stays as it is, and any other loses its oldest word
-  pub taken : lane-words m ≡ rest (lane-words (getD lanes q l))
-      → lane-queues (set lanes q m) ≡ cond (isOk (okOr (oldest-of (lane-words (getD lanes q l))) Empty)) (change shrunk (lane-queues lanes) q) (lane-queues lanes)
-  taken e = go (lane-words (getD lanes q l)) refl
+  pub take-done : (r : Result ℕ Fault) → r ≡ okOr (oldest-of (lane-words lane)) Empty → lane-words after ≡ rest (lane-words lane)
+      → (r ≡ take-answer (lane-queues lanes) q) × (lane-queues (set lanes q after) ≡ cond (isOk r) (change shrunk (lane-queues lanes) q) (lane-queues lanes))
+  take-done r a e = go (lane-words lane) refl a
     where
-      go : (ws : List ℕ) → lane-words (getD lanes q l) ≡ ws → lane-queues (set lanes q m) ≡ cond (isOk (okOr (oldest-of ws) Empty)) (change shrunk (lane-queues lanes) q) (lane-queues lanes)
-      go [] h = same-lane lanes q l within m (deep-16 (e ∙ ap rest h ∙ sym h))
-      go (w ∷ ws) h = change-lane lanes q l within m shrunk (deep-16 e)
+      done : Result ℕ Fault → List Queue
+      done t = cond (isOk t) (change shrunk (lane-queues lanes) q) (lane-queues lanes)
+
+      answer : Queue → Result ℕ Fault
+      answer u = cond (empty u) (Err Empty) (Ok (oldest u))
+
+      go : (ws : List ℕ) → lane-words lane ≡ ws → r ≡ okOr (oldest-of ws) Empty → (r ≡ take-answer (lane-queues lanes) q) × (lane-queues (set lanes q after) ≡ done r)
+      go [] h t = (t ∙ sym (ap answer (found ∙ deep-16 h)), same-lane (e ∙ ap rest h ∙ sym h) ∙ ap done (sym t))
+      go (w ∷ ws) h t = (
+        t ∙ sym (ap answer (found ∙ deep-16 h) ∙ cond-false (eqb (length (w ∷ ws)) 0) (Err Empty) (Ok w) (ne-eqb (length (w ∷ ws)) 0 (omega arith))),
+        change-lane shrunk (deep-16 e) ∙ ap done (sym t),
+      )
 
 -- A number that no lane has.
 module _ (lanes : List Lane) (q : ℕ) (beyond : length lanes ≤ q) where

@@ -4,12 +4,22 @@ ghost use mathlib.Core.Bool.{cond};
 ghost use Rattle.std.specs.Results.{isOk};
 ghost use lib.ListN.{length};
 ghost use Rattle.bank.specs.Queues.{at, change, put-answer, grown, take-answer, shrunk, wiped};
-ghost use Rattle.bank.specs.Rings.{lane-queues};
+ghost use Rattle.bank.specs.Rings.{as-fault, lane-queues};
 use super::Lane;
 use crate::bank::Fault;
 use fifo::Full;
 
 const DEPTH: u16 = 16;
+
+// What a row answers to a put, as the bank answers it.
+fn as_fault(answer: Result<(), Full>) -> Result<(), Fault>
+    ensures { λ r. ⌜ r ≡ as-fault answer ⌝ }
+{
+    match answer {
+        Ok(()) => Ok(()),
+        Err(Full) => Err(Fault::Full),
+    }
+}
 
 pub(super) fn depth(lanes: &[Lane], q: u8) -> u16
     ensures { λ r. ⌜ r ≡ at (lane-queues (now (lanes .entry))) q .depth ⌝ }
@@ -36,10 +46,7 @@ pub(super) fn put(lanes: &mut [Lane], q: u8, word: u32) -> Result<(), Fault>
     if at >= lanes.len() {
         return Err(Fault::Full);
     }
-    match lanes[at].put(word) {
-        Ok(()) => Ok(()),
-        Err(Full) => Err(Fault::Full),
-    }
+    as_fault(lanes[at].put(word))
 }
 
 pub(super) fn take(lanes: &mut [Lane], q: u8) -> Result<u32, Fault>
