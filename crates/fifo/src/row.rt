@@ -40,7 +40,7 @@ fn filled<T: Copy>(slots: &[T], cursor: &Cursor) -> usize
 fn append<T: Copy>(slots: &mut [T], cursor: &mut Cursor, x: T)
     requires { ⌜ now cursor .count < length (now slots) ⌝ }
     ensures waits { λ _. ⌜ waiting (now (slots .exit)) (now (cursor .exit)) ≡ waiting (now (slots .entry)) (now (cursor .entry)) ++ x ∷ [] ⌝ }
-    ensures places { λ _. ⌜ now (slots .exit) ≡ set (now (slots .entry)) (free (length (now (slots .entry))) (now (cursor .entry))) x ⌝ }
+    ensures stored { λ _. ⌜ now (slots .exit) ≡ set (now (slots .entry)) (free (length (now (slots .entry))) (now (cursor .entry))) x ⌝ }
     ensures moves { λ _. ⌜ now (cursor .exit) ≡ longer (length (now (slots .entry))) (now (cursor .entry)) ⌝ }
 {
     let size = slots.len();
@@ -83,7 +83,7 @@ pub fn number<T: Copy>(slots: &[T], cursor: &Cursor) -> usize
 pub fn put<T: Copy>(slots: &mut [T], cursor: &mut Cursor, x: T) -> Result<(), Full>
     ensures answer { λ r. ⌜ r ≡ put-answer (length (now (slots .entry))) (waiting (now (slots .entry)) (now (cursor .entry))) ⌝ }
     ensures waits { λ _. ⌜ waiting (now (slots .exit)) (now (cursor .exit)) ≡ put-waiting (length (now (slots .entry))) (waiting (now (slots .entry)) (now (cursor .entry))) x ⌝ }
-    ensures places { λ r. ⌜ now (slots .exit) ≡ cond (isOk r) (set (now (slots .entry)) (free (length (now (slots .entry))) (now (cursor .entry))) x) (now (slots .entry)) ⌝ }
+    ensures stored { λ r. ⌜ now (slots .exit) ≡ cond (isOk r) (set (now (slots .entry)) (free (length (now (slots .entry))) (now (cursor .entry))) x) (now (slots .entry)) ⌝ }
     ensures moves { λ r. ⌜ now (cursor .exit) ≡ cond (isOk r) (longer (length (now (slots .entry))) (now (cursor .entry))) (now (cursor .entry)) ⌝ }
 {
     if filled(slots, cursor) == slots.len() {
@@ -98,7 +98,7 @@ pub fn put<T: Copy>(slots: &mut [T], cursor: &mut Cursor, x: T) -> Result<(), Fu
 pub fn take<T: Copy>(slots: &mut [T], cursor: &mut Cursor) -> Option<T>
     ensures answer { λ r. ⌜ r ≡ oldest (waiting (now (slots .entry)) (now (cursor .entry))) ⌝ }
     ensures waits { λ _. ⌜ waiting (now (slots .exit)) (now (cursor .exit)) ≡ rest (waiting (now (slots .entry)) (now (cursor .entry))) ⌝ }
-    ensures places { λ _. ⌜ now (slots .exit) ≡ now (slots .entry) ⌝ }
+    ensures stored { λ _. ⌜ now (slots .exit) ≡ now (slots .entry) ⌝ }
     ensures moves { λ r. ⌜ now (cursor .exit) ≡ cond (isSome r) (shorter (length (now (slots .entry))) (now (cursor .entry))) (now (cursor .entry)) ⌝ }
 {
     let waits = filled(slots, cursor);

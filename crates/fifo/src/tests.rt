@@ -14,16 +14,20 @@ use std::test::*;
 // Four letters through three slots: the fourth goes into the slot that the first has left.
 #[test]
 fn a_row_goes_round_its_end() -> Result<(), Fail> {
-    let mut slots = ['-'; 3];
-    let mut cursor = Cursor { first: 0, count: 0 };
-    check_eq(row::put(&mut slots, &mut cursor, 'a'), Ok(()))?;
-    check_eq(row::put(&mut slots, &mut cursor, 'b'), Ok(()))?;
-    check_eq(row::put(&mut slots, &mut cursor, 'c'), Ok(()))?;
+    let mut slots = ['a', 'b', 'c'];
+    let mut cursor = Cursor { first: 0, count: 3 };
     check_eq(row::put(&mut slots, &mut cursor, 'd'), Err(Full))?;
     check_eq(row::take(&mut slots, &mut cursor), Some('a'))?;
     check_eq(row::put(&mut slots, &mut cursor, 'd'), Ok(()))?;
     check_eq(slots, ['d', 'b', 'c'])?;
-    check_eq(row::number(&slots, &cursor), 3)?;
+    check_eq(row::number(&slots, &cursor), 3)
+}
+
+// From the middle slot round to the first, oldest first.
+#[test]
+fn a_row_is_read_round_its_end() -> Result<(), Fail> {
+    let mut slots = ['d', 'b', 'c'];
+    let mut cursor = Cursor { first: 1, count: 3 };
     check_eq(row::take(&mut slots, &mut cursor), Some('b'))?;
     check_eq(row::take(&mut slots, &mut cursor), Some('c'))?;
     check_eq(row::oldest(&slots, &cursor), Some('d'))?;

@@ -20,12 +20,12 @@ pub struct Tray<'a, T> {
 }
 
 // Every method that may write says which slots the tray still lends (`lender`): the same ones, so that what is said of
-// them here (`places`) is said of the caller's slice.
+// them here (`stored`) is said of the caller's slice.
 impl<'a, T: Copy> Tray<'a, T> {
     // An empty tray over the slots, which stay as they are.
     pub fn new(slots: &'a mut [T]) -> Tray<'a, T>
         ensures waits { λ r. ⌜ held r ≡ [] ⌝ }
-        ensures places { λ r. ⌜ now (r .slots) ≡ now (slots .entry) ⌝ }
+        ensures stored { λ r. ⌜ now (r .slots) ≡ now (slots .entry) ⌝ }
         ensures lender { λ r. ⌜ name (r .slots) ≡ name (slots .entry) ⌝ }
         ensures moves { λ r. ⌜ r .cursor ≡ empty ⌝ }
     {
@@ -39,7 +39,7 @@ impl<'a, T: Copy> Tray<'a, T> {
     pub fn put(&mut self, x: T) -> Result<(), Full>
         ensures answer { λ r. ⌜ r ≡ put-answer (places (now (self .entry))) (held (now (self .entry))) ⌝ }
         ensures waits { λ _. ⌜ held (now (self .exit)) ≡ put-waiting (places (now (self .entry))) (held (now (self .entry))) x ⌝ }
-        ensures places { λ r. ⌜ now (now (self .exit) .slots) ≡ cond (isOk r) (set (now (now (self .entry) .slots)) (free (places (now (self .entry))) (now (self .entry) .cursor)) x) (now (now (self .entry) .slots)) ⌝ }
+        ensures stored { λ r. ⌜ now (now (self .exit) .slots) ≡ cond (isOk r) (set (now (now (self .entry) .slots)) (free (places (now (self .entry))) (now (self .entry) .cursor)) x) (now (now (self .entry) .slots)) ⌝ }
         ensures moves { λ r. ⌜ now (self .exit) .cursor ≡ cond (isOk r) (longer (places (now (self .entry))) (now (self .entry) .cursor)) (now (self .entry) .cursor) ⌝ }
         ensures lender { λ _. ⌜ name (now (self .exit) .slots) ≡ name (now (self .entry) .slots) ⌝ }
     {
@@ -53,7 +53,7 @@ impl<'a, T: Copy> Tray<'a, T> {
     pub fn take(&mut self) -> Option<T>
         ensures answer { λ r. ⌜ r ≡ oldest (held (now (self .entry))) ⌝ }
         ensures waits { λ _. ⌜ held (now (self .exit)) ≡ rest (held (now (self .entry))) ⌝ }
-        ensures places { λ _. ⌜ now (now (self .exit) .slots) ≡ now (now (self .entry) .slots) ⌝ }
+        ensures stored { λ _. ⌜ now (now (self .exit) .slots) ≡ now (now (self .entry) .slots) ⌝ }
         ensures moves { λ r. ⌜ now (self .exit) .cursor ≡ cond (isSome r) (shorter (places (now (self .entry))) (now (self .entry) .cursor)) (now (self .entry) .cursor) ⌝ }
         ensures lender { λ _. ⌜ name (now (self .exit) .slots) ≡ name (now (self .entry) .slots) ⌝ }
     {
@@ -87,7 +87,7 @@ impl<'a, T: Copy> Tray<'a, T> {
     // Lets nothing wait, and writes no slot.
     pub fn wipe(&mut self)
         ensures waits { λ _. ⌜ held (now (self .exit)) ≡ [] ⌝ }
-        ensures places { λ _. ⌜ now (now (self .exit) .slots) ≡ now (now (self .entry) .slots) ⌝ }
+        ensures stored { λ _. ⌜ now (now (self .exit) .slots) ≡ now (now (self .entry) .slots) ⌝ }
         ensures moves { λ _. ⌜ now (self .exit) .cursor ≡ empty ⌝ }
         ensures lender { λ _. ⌜ name (now (self .exit) .slots) ≡ name (now (self .entry) .slots) ⌝ }
     {

@@ -51,7 +51,7 @@ fn see<B: Bank>(register: Register, bank: &B) -> Seen
 }
 
 // Over every bank the story is the same, whatever waited there before, and no other queue is touched.
-pub fn first_cue<B: Bank>(bank: &mut B, cue: u32) -> Result<Story, Fault>
+pub(super) fn first_cue<B: Bank>(bank: &mut B, cue: u32) -> Result<Story, Fault>
     ensures answer { λ r. ⌜ r ≡ Ok (told cue) ⌝ }
     ensures after { λ _. ⌜ queues (now (bank .exit)) ≡ change wiped (queues (now (bank .entry))) 0 ⌝ }
 {

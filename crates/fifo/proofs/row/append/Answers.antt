@@ -12,6 +12,6 @@ returns g c =
     let a = c .slot-after-at .ensures in
     record {
       waits = appended-waits s cursor (c .start-of-first .result) (c .slot-after-at .result) (c .args .x) (c .pre) f a;
-      places = ap (λ i. set s i (c .args .x)) (a ∙ ap (λ k. (k + cursor .count) % length s) f);
+      stored = ap (λ i. set s i (c .args .x)) (a ∙ ap (λ k. (k + cursor .count) % length s) f);
       moves = ap (λ k. record { first = k; count = cursor .count + 1 }) f;
     }
