@@ -1,4 +1,6 @@
 // A bank of ten queues of words: the interface, its meaning, and the ring bank.
+#![tactic(auto)]
+
 mod bank;
 mod ring;
 #[cfg(test)]

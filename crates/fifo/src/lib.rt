@@ -1,4 +1,6 @@
 // First-in first-out rows over lent slots, for every element that can be copied.
+#![tactic(auto)]
+
 mod cursor;
 pub mod row;
 #[cfg(test)]

@@ -1,4 +1,6 @@
 // One cue from grant to screen, each action printed.
+#![tactic(auto)]
+
 mod story;
 
 use bank::Ring;

@@ -1,4 +1,6 @@
 // The rules of the switch: what it is told, what it answers and why it refuses, and what holds of every run.
+#![tactic(auto)]
+
 mod command;
 mod description;
 mod guard;
