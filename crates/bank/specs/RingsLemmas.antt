@@ -5,7 +5,6 @@ use Rattle.std.proofs.lemmas.List.{get_or-map, set-get_or, map-set, get_or_past,
 use Rattle.std.proofs.lemmas.Bool.{cond-true, cond-false, ne_eqb}
 use Rattle.std.specs.Option.{ok_or}
 use Rattle.fifo.specs.Row.{oldest as oldest-of, put_answer as row-answer, put_waiting, rest}
-use Rattle.fifo.specs.declared.cursor.Full.{Full as RowFull}
 use Rattle.fifo.proofs.Rows.{length-waiting}
 use Rattle.bank.specs.Queues.{Queue, Sound, at, change, full, empty, oldest, no_queue, put_answer, grown, take_answer, shrunk}
 use Rattle.bank.specs.Rings.{as_fault, lane_words, lane_queue, lane_queues, ring_queues}

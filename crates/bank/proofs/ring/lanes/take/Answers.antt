@@ -15,6 +15,6 @@ pub returns : goal.returns
 returns c =
     let lane = get_or c.args.lanes.now c.args.q c.index-lanes-at.result in
     let found = at_lane c.args.lanes.now c.args.q c.index-lanes-at.result c.if-at-lanes.false in
-    let answer = c.ok-or.ensures.value ∙ ap (λ o. ok_or o Empty) c.take.ensures.answer in
-    let done = take_done c.args.lanes.now c.args.q lane c.take.new.self found c.ok-or.result answer c.take.ensures.waits in
+    let answer = c.ok_or.ensures.value ∙ ap (λ o. ok_or o Empty) c.take.ensures.answer in
+    let done = take_done c.args.lanes.now c.args.q lane c.take.new.self found c.ok_or.result answer c.take.ensures.waits in
     record { answer = done.0; after = done.1 }
