@@ -12,7 +12,7 @@ use Rattle.rules.specs.Checks.{accepted}
 use Rattle.rules.specs.Description.{fixed}
 use Rattle.rules.specs.Register.{managers}
 use Rattle.rules.specs.Route.{pulls_from, streams_to}
-use Rattle.rules.specs.State.{State, queue, register}
+use Rattle.rules.specs.State.{State, register}
 use Rattle.rules.specs.Transition.{act, next, resets, transferred}
 use Rattle.rules.proofs.Views.{Mail, mail, Sized, Beside, accesses, closed_if, expired, given, pays, queueing, spent, ticks, ages, seen, sized_beside, queue_there, transferred_here, transferred_there, transferred_beside, queue_beside, access_beside, access_seen, aged_beside, aged_seen}
 use Rattle.rules.proofs.Resets.{guarded_beside, guarded_seen}

@@ -8,7 +8,7 @@ use Rattle.rules.specs.Checks.{accepted}
 use Rattle.rules.specs.Ends.{AlikeAt, delegation}
 use Rattle.rules.specs.Laws.{Runs}
 use Rattle.rules.specs.Ledger.{Event, Ledger, fed, fed_all, ledger, opened}
-use Rattle.rules.specs.State.{State, owner, queue}
+use Rattle.rules.specs.State.{State, queue}
 use Rattle.rules.specs.Transition.{next, resets}
 use Rattle.rules.proofs.Ends.{lines_same}
 use Rattle.rules.proofs.Facts.{delegates}

@@ -6,7 +6,6 @@ use Rattle.rules.specs.declared.description.Description.{Description}
 use Rattle.rules.specs.Description.{fixed}
 use Rattle.rules.specs.Ledger.{Event, Ledger, fed, holders, ledger}
 use Rattle.rules.specs.Refusal.{Answer}
-use Rattle.rules.specs.Transition.{answer}
 
 -- The commands that concern the holding of mailbox k by domain x: the ticks, and those that name the mailbox and
 -- come from x or from the fixed domain.

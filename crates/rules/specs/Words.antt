@@ -5,7 +5,6 @@ use Rattle.rules.specs.declared.command.Command.TheVariants.{Delegate, Yield, Se
 use Rattle.rules.specs.declared.description.Description.{Description}
 use Rattle.rules.specs.Ledger.{Event, Ledger, entered, fed, wipes}
 use Rattle.rules.specs.Refusal.{value_of}
-use Rattle.rules.specs.Transition.{answer}
 
 -- what an accepted command, answered with value v, puts into mailbox k, and what it takes out
 abbrev pub passes : ℕ → Command → ℕ → List ℕ × List ℕ
