@@ -1,12 +1,11 @@
 -- Queue 0 on a cue's way: wiped, with the cue in it, without it, and wiped again.
-use Rattle.std.proofs.Common.{◌≡◌, ℕ, List, [], ◌∷◌, Ok, Err, refl, ap, ◌∙◌, arith}
+use Rattle.std.proofs.Common.{◌≡◌, ℕ, List, [], ◌∷◌, Ok, Err, refl, arith}
 use Rattle.std.proofs.lemmas.Bool.{cond-false, ne_eqb}
-use Rattle.bank.specs.Queues.{Queue, Sound, at, change, full, put_answer, grown, take_answer, shrunk, wiped}
+use Rattle.bank.specs.Queues.{Queue, Sound, change, full, put_answer, grown, take_answer, shrunk, wiped}
 use Rattle.bank.specs.declared.bank.Fault.TheVariants.{Full}
 use Rattle.rules.specs.Register.{packed}
 use Rattle.rules.specs.declared.register.Register.{Register}
 use Rattle.first_cue.specs.Told.{seen}
-use Rattle.first_cue.specs.declared.story.Seen.{Seen}
 
 abbrev pub clear : List Queue → List Queue
 clear qs = change wiped qs 0

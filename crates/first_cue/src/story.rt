@@ -41,7 +41,7 @@ impl fmt::Display for Seen {
 }
 
 fn see<B: Bank>(register: Register, bank: &B) -> Seen
-    ensures { result ≡ seen register (queues bank.now) }
+    ensures { result ≡ seen register (B.queues bank.now) }
 {
     Seen {
         register: register.pack(),
@@ -52,7 +52,7 @@ fn see<B: Bank>(register: Register, bank: &B) -> Seen
 // Over every bank the story is the same, whatever waited there before, and no other queue is touched.
 pub(super) fn first_cue<B: Bank>(bank: &mut B, cue: u32) -> Result<Story, Fault>
     ensures answer { result ≡ Ok (told cue) }
-    ensures after { queues bank.new ≡ change wiped (queues bank.old) 0 }
+    ensures after { B.queues bank.new ≡ change wiped (B.queues bank.old) 0 }
 {
     bank.wipe(MAILBOX);
     let fresh = see(Register::managers(), bank);
