@@ -1,6 +1,6 @@
 #!/usr/bin/env python3
 """Spells the names of definitions and lemmas as today's Rattle does: functions, fields and lemmas in snake case, types in
-camel case. A dash stays only in a lemma that is named for the left side of its equation, between the two names there.
+camel case. A dash stays only where it joins the names of two functions, in a lemma that is an equation about them.
 
 usage: python3 tools/respell.py        in the repository, once, right after the kit's own port.py
 
@@ -13,7 +13,7 @@ import re
 
 ROOT = pathlib.Path(__file__).resolve().parent.parent
 
-# Lemmas named for the left side of their equation, the outer call first.
+# Lemmas about two functions, the outer call first.
 JOINED = {
     "length-below": "length-wiped_below",
     "length-reset": "length-reset",

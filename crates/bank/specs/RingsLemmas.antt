@@ -4,7 +4,7 @@ use Rattle.std.proofs.Common.{sym, ap, ◌∙◌, arith}
 use Rattle.std.proofs.lemmas.List.{get_or-map, set-get_or, map-set, get_or_past, set_past, length-map}
 use Rattle.std.proofs.lemmas.Bool.{cond-true, cond-false, ne_eqb}
 use Rattle.std.specs.Option.{ok_or}
-use Rattle.fifo.specs.Row.{oldest as oldest-of, put_answer as row-answer, put_waiting, rest}
+use Rattle.fifo.specs.Row.{oldest as oldest_of, put_answer as row_answer, put_waiting, rest}
 use Rattle.fifo.proofs.Rows.{length-waiting}
 use Rattle.bank.specs.Queues.{Queue, Sound, at, change, full, empty, oldest, no_queue, put_answer, grown, take_answer, shrunk}
 use Rattle.bank.specs.Rings.{as_fault, lane_words, lane_queue, lane_queues, ring_queues}
@@ -31,7 +31,7 @@ module _ (lanes : List Lane) (q : ℕ) (lane after : Lane) (found : at (lane_que
   same_lane : lane_words after ≡ lane_words lane → lane_queues (slice_set lanes q after) ≡ lane_queues lanes
   same_lane e = change_lane (λ u. u) (deep_16 e) ∙ set-get_or (lane_queues lanes) q no_queue
 
-  pub put_done : (word : ℕ) (r : Result (Unit {0}) Fault) → r ≡ as_fault (row-answer 16 (lane_words lane)) → lane_words after ≡ put_waiting 16 (lane_words lane) word
+  pub put_done : (word : ℕ) (r : Result (Unit {0}) Fault) → r ≡ as_fault (row_answer 16 (lane_words lane)) → lane_words after ≡ put_waiting 16 (lane_words lane) word
       → (r ≡ put_answer (lane_queues lanes) q) × (lane_queues (slice_set lanes q after) ≡ cond (is_ok r) (change (grown word) (lane_queues lanes) q) (lane_queues lanes))
   put_done word r = go (full (lane_queue lane)) (ap full found)
     where
@@ -43,7 +43,7 @@ module _ (lanes : List Lane) (q : ℕ) (lane after : Lane) (found : at (lane_que
       go true h t e = (t ∙ sym (cond-true (full (at (lane_queues lanes) q)) (Err Full) (Ok tt) h), same_lane e ∙ ap done (sym t))
       go false h t e = (t ∙ sym (cond-false (full (at (lane_queues lanes) q)) (Err Full) (Ok tt) h), change_lane (grown word) (deep_16 e) ∙ ap done (sym t))
 
-  pub take_done : (r : Result ℕ Fault) → r ≡ ok_or (oldest-of (lane_words lane)) Empty → lane_words after ≡ rest (lane_words lane)
+  pub take_done : (r : Result ℕ Fault) → r ≡ ok_or (oldest_of (lane_words lane)) Empty → lane_words after ≡ rest (lane_words lane)
       → (r ≡ take_answer (lane_queues lanes) q) × (lane_queues (slice_set lanes q after) ≡ cond (is_ok r) (change shrunk (lane_queues lanes) q) (lane_queues lanes))
   take_done r a e = go (lane_words lane) refl a
     where
@@ -53,7 +53,7 @@ module _ (lanes : List Lane) (q : ℕ) (lane after : Lane) (found : at (lane_que
       answer : Queue → Result ℕ Fault
       answer u = cond (empty u) (Err Empty) (Ok (oldest u))
 
-      go : (ws : List ℕ) → lane_words lane ≡ ws → r ≡ ok_or (oldest-of ws) Empty → (r ≡ take_answer (lane_queues lanes) q) × (lane_queues (slice_set lanes q after) ≡ done r)
+      go : (ws : List ℕ) → lane_words lane ≡ ws → r ≡ ok_or (oldest_of ws) Empty → (r ≡ take_answer (lane_queues lanes) q) × (lane_queues (slice_set lanes q after) ≡ done r)
       go [] h t = (t ∙ sym (ap answer (found ∙ deep_16 h)), same_lane (e ∙ ap rest h ∙ sym h) ∙ ap done (sym t))
       go (w ∷ ws) h t = (
         t ∙ sym (ap answer (found ∙ deep_16 h) ∙ cond-false (length (w ∷ ws) == 0) (Err Empty) (Ok w) (ne_eqb (length (w ∷ ws)) 0 (omega arith))),

@@ -83,8 +83,8 @@ module _ (d : Description) (s : State) (b : Ledger) (r : InStep d s b) (k : ℕ)
       go false a = append-nil (queue s k).words
 
 -- one event before the others
-joined : (waits put all-put left all_left waiting-then waiting-last : List ℕ) → waits ++ put ≡ left ++ waiting-then → waiting-then ++ all-put ≡ all_left ++ waiting-last
-    → waits ++ (put ++ all-put) ≡ (left ++ all_left) ++ waiting-last
+joined : (waits put all_put left all_left waiting_then waiting_last : List ℕ) → waits ++ put ≡ left ++ waiting_then → waiting_then ++ all_put ≡ all_left ++ waiting_last
+    → waits ++ (put ++ all_put) ≡ (left ++ all_left) ++ waiting_last
 joined ws ps pss ls lss vs us p q =
     sym (append_assoc ws ps pss) ∙ ap (λ (x : List ℕ). x ++ pss) p ∙ append_assoc ls vs pss ∙ ap (λ (x : List ℕ). ls ++ x) q ∙ sym (append_assoc ls lss us)
 
