@@ -1,32 +1,20 @@
 -- What a write and a step of the cursor do to the slots in their order round the end, and so to the elements that wait.
-use Rattle.std.proofs.Common.{◌≡◌, ℕ, ◌+◌, ◌-◌, ◌%◌, ◌<◌, ◌≤◌, min, ltb, List, [], ◌∷◌, ◌++◌, length, get_or, take, drop, set, sym, ap, ◌∙◌, ⊎_elim, mod-eq_of_lt, add-one, arith}
-use native.Mathlib.Nat.{mod-eq-sub-mod, mod_self}
+use Rattle.std.proofs.Common.{◌≡◌, ℕ, ◌+◌, ◌-◌, ◌%◌, ◌<◌, ◌≤◌, min, ltb, List, [], ◌∷◌, ◌++◌, length, get_or, take, drop, set, sym, ap, ◌∙◌, ⊎_elim, mod-eq_of_lt, add-one, Some, refl, arith, rules}
+use native.Mathlib.Nat.{mod_self}
+use Rattle.std.proofs.Math.Nat.{mod-eq-sub-mod}
 use lib.Seq.{take-set-lt}
-use Rattle.std.proofs.lemmas.List.{append-nil, append_assoc, length-append, length-take, length-drop, take_all, drop_all, drop-set-add, drop-set-lt, take-set-le, set-append_left, set-append_right, take_more_set, take-append-le, drop_more, take_more}
-use Rattle.std.proofs.lemmas.Bool.{cases_lt, lt-ltb, le-ltb, cond-true, cond-false}
+use Rattle.std.proofs.lemmas.List.{append-nil, append_assoc, length-append, length-take, length-drop, take_all, drop_all, drop-set-add, drop-set-lt, take-set-le, set-append_left, set-append_right, take_more_set, take-append-le, take_min, drop_more, take_more}
+use Rattle.std.proofs.lemmas.Bool.{cases_lt, cond_both}
+use Rattle.std.proofs.lemmas.Bool.Decides.{nat_tests}
 use Rattle.fifo.specs.declared.cursor.Cursor.{Cursor}
-use Rattle.fifo.specs.Row.{rotated, waiting, rest, start}
+use Rattle.fifo.specs.Row.{rotated, waiting, oldest, rest, start}
 
--- The two ways round a circle of `size` slots: short of its end, and past it.
-pub on_this_side : (first by size : ℕ) → first + by < size → first + by ≡ (first + by) % size
-on_this_side first by size h = sym (mod-eq_of_lt h)
+-- The slot `by` steps after `first` in a circle of `size` slots, past its end.
+past_the_end : (first by size : ℕ) → first < size → by ≤ size → size - first ≤ by → by - (size - first) ≡ (first + by) % size
+past_the_end first by size a b h = search (rules, mod-eq-sub-mod, mod-eq_of_lt)
 
-pub past_the_end : (first by size : ℕ) → first < size → by ≤ size → size - first ≤ by → by - (size - first) ≡ (first + by) % size
-past_the_end first by size a b h =
-    let l : size ≤ first + by = omega arith in
-    let k : (first + by) - size < size = omega arith in
-    let e : by - (size - first) ≡ (first + by) - size = omega arith in
-    e ∙ sym (mod-eq-sub-mod l ∙ mod-eq_of_lt k)
-
-pub start_below : (size : ℕ) (cursor : Cursor) → 0 < size → start size cursor < size
-start_below size cursor h =
-    ⊎_elim
-    (λ l. rw (lt-ltb cursor.first size l) l)
-    (λ l. rw (le-ltb cursor.first size l) h)
-    (cases_lt cursor.first size)
-
-pub same_cursor : {f i n m : ℕ} → f ≡ i → n ≡ m → ◌≡◌ {A = Cursor} (record { first = f; count = n }) (record { first = i; count = m })
-same_cursor e h = cc
+start_below : (size : ℕ) (cursor : Cursor) → 0 < size → start size cursor < size
+start_below size cursor h = grind (arith, nat_tests)
 
 module _ {T : Type 0} where
   length-rotated : (s : List T) (f : ℕ) → length (rotated s f) ≡ length s
@@ -41,10 +29,13 @@ module _ {T : Type 0} where
 
   rotated-start : (s : List T) (c : Cursor) → rotated s c.first ≡ rotated s (start (length s) c)
   rotated-start s c =
-      ⊎_elim
-      (λ l. ap (rotated s) (sym (cond-true (ltb c.first (length s)) c.first 0 (lt-ltb c.first (length s) l))))
-      (λ l. rotated_past s c.first l ∙ ap (rotated s) (sym (cond-false (ltb c.first (length s)) c.first 0 (le-ltb c.first (length s) l))))
-      (cases_lt c.first (length s))
+      cond_both
+      (ltb c.first (length s))
+      c.first
+      0
+      (λ f. rotated s c.first ≡ rotated s f)
+      (λ p. refl)
+      (λ p. rotated_past s c.first (grind (arith, nat_tests)))
 
   -- A write n slots after `f`, going round the end, is a write at n in the order from `f` on.
   write_on_this_side : (s : List T) (f n : ℕ) (x : T) → f + n < length s → rotated (set s (f + n) x) f ≡ set (rotated s f) n x
@@ -64,7 +55,7 @@ module _ {T : Type 0} where
   rotated_write : (s : List T) (f n : ℕ) (x : T) → f < length s → n < length s → rotated (set s ((f + n) % length s) x) f ≡ set (rotated s f) n x
   rotated_write s f n x a b =
       ⊎_elim
-      (λ l. ap (λ i. rotated (set s i x) f) (sym (on_this_side f n (length s) l)) ∙ write_on_this_side s f n x l)
+      (λ l. ap (λ i. rotated (set s i x) f) (mod-eq_of_lt l) ∙ write_on_this_side s f n x l)
       (λ l.
       let h : length s - f ≤ n = omega arith in
       ap (λ i. rotated (set s i x) f) (sym (past_the_end f n (length s) a (omega arith) h)) ∙ write_past_the_end s f n x (omega arith) h b)
@@ -104,25 +95,24 @@ module _ {T : Type 0} where
       ∙ ap (λ m. take m (get_or s f d ∷ r)) (add-one n)
       ∙ ap (λ q. get_or s f d ∷ q) (sym (ap (take n) (rotated_round s f h ∙ rotated_next s f d h) ∙ take-append-le n r (get_or s f d ∷ []) l))
 
-  -- more than there are is all
-  take_at_most : (n m : ℕ) (l : List T) → m ≡ min n (length l) → take n l ≡ take m l
-  take_at_most n m l e =
-      ⊎_elim
-      (λ h. ap (λ k. take k l) (omega arith))
-      (λ h. take_all n l h ∙ sym (take_all m l (omega arith)))
-      (cases_lt n (length l))
-
   -- So what waits is the element in the first slot, and then what waits from the next slot on.
-  pub waits_in_turn : (s : List T) (c : Cursor) (f i n : ℕ) (d : T) → n + 1 ≡ min c.count (length s) → f ≡ start (length s) c → i ≡ (f + 1) % length s → waiting s c ≡ get_or s f d ∷ waiting s (record { first = i; count = n })
+  waits_in_turn : (s : List T) (c : Cursor) (f i n : ℕ) (d : T) → n + 1 ≡ min c.count (length s) → f ≡ start (length s) c → i ≡ (f + 1) % length s → waiting s c ≡ get_or s f d ∷ waiting s (record { first = i; count = n })
   waits_in_turn s c f i n d h e a =
       let b : f < length s = rw e (start_below (length s) c (omega arith)) in
-      let m : take c.count (rotated s f) ≡ take (n + 1) (rotated s f) = take_at_most c.count (n + 1) (rotated s f) (h ∙ ap (min c.count) (sym (length-rotated s f))) in
+      let m : take c.count (rotated s f) ≡ take (n + 1) (rotated s f) =
+      sym (take_min c.count (rotated s f)) ∙ ap (λ m. take m (rotated s f)) (ap (min c.count) (length-rotated s f) ∙ sym h) in
       ap (take c.count) (rotated-start s c ∙ ap (rotated s) (sym e))
       ∙ m
       ∙ head_then_rest s f n d b (omega arith)
       ∙ ap (λ j. get_or s f d ∷ take n (rotated s j)) (sym a)
 
-  -- the same for a caller that names no element
+  -- the element in the first slot, which its reader names, is the oldest
+  pub oldest_waits : (s : List T) (c : Cursor) (x : T) → 0 < min c.count (length s) → x ≡ get_or s (start (length s) c) x → oldest (waiting s c) ≡ Some x
+  oldest_waits s c x h e =
+      let n : (min c.count (length s) - 1) + 1 ≡ min c.count (length s) = omega arith in
+      ap oldest (waits_in_turn s c _ _ (min c.count (length s) - 1) x n refl refl) ∙ sym (ap Some e)
+
+  -- and the rest is what waits from the next slot on
   pub rest_waits : (s : List T) (c : Cursor) (f i n : ℕ) → n + 1 ≡ min c.count (length s) → f ≡ start (length s) c → i ≡ (f + 1) % length s → waiting s (record { first = i; count = n }) ≡ rest (waiting s c)
   rest_waits [] c f i n h e a =
       let z : ⊥ = omega arith in

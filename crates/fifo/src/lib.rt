@@ -1,4 +1,4 @@
-// First-in first-out rows over lent slots, for every element that can be copied.
+//! First-in first-out rows over lent slots, for every element that can be copied.
 #![tactic(auto)]
 
 mod cursor;

@@ -1,4 +1,4 @@
-// Rows and trays on examples: round the end, full, empty, and a single place.
+//! Rows and trays on examples: round the end, full, empty, and a single place.
 ghost use Rattle.std.specs.Prelude.{◌≡◌, is_ok, if◌then◌else◌, slice_set};
 
 use crate::cursor::{Cursor, Full};
