@@ -1,4 +1,4 @@
-// A bank of ten queues of words: the interface, its meaning, and the ring bank.
+//! A bank of ten queues of words: the interface, its meaning, and the ring bank.
 #![tactic(auto)]
 
 mod bank;

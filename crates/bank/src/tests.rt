@@ -1,4 +1,4 @@
-// The ring bank on examples: full, empty, round the end, and a number that no queue has.
+//! The ring bank on examples: full, empty, round the end, and a number that no queue has.
 use crate::bank::{Bank, Fault};
 use crate::ring::Ring;
 

@@ -1,18 +1,33 @@
-// One lane of the ring bank, through the row functions at words.
-ghost use Rattle.std.specs.Prelude.{◌≡◌, [], length};
-ghost use Rattle.fifo.specs.Row.{put_answer, put_waiting, oldest, rest};
-ghost use Rattle.bank.specs.Rings.{lane_words};
+//! One queue of the ring bank: a row of words in 16 slots.
+ghost use Rattle.std.specs.Prelude.{◌≡◌, length};
 
-use super::Lane;
 use fifo::{Cursor, Full, row};
 
+// How many words a lane has room for.
+const SLOTS: usize = 16;
+
+// A fixed array, since a switch has no heap. It has no `Model`, as the ring has none: of a list of words alone nobody would
+// know that they are no more than the depth. Its methods are a tray's, over slots of its own.
+#[derive(Clone, Copy)]
+pub(super) struct Lane {
+    slots: [u32; SLOTS],
+    cursor: Cursor,
+    ghost sixteen: { length slots ≡ 16 },
+}
+
 impl Lane {
+    ghost use Rattle.std.specs.Prelude.{[]};
+    ghost use Rattle.fifo.specs.Row.{put_answer, put_waiting, oldest, rest};
+    ghost use Rattle.bank.specs.Rings.{lane_words};
+
+    pub(super) const DEPTH: u16 = SLOTS as u16;
+
     pub(super) fn new() -> Lane
         ensures { lane_words result ≡ [] }
     {
         Lane {
-            slots: [0; 16],
-            cursor: Cursor { first: 0, count: 0 },
+            slots: [0; SLOTS],
+            cursor: Cursor::default(),
         }
     }
 
