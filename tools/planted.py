@@ -51,7 +51,7 @@ ERRORS = [
      "kept", "RunsAreLawful", number(WORDS, 1, 2, run="Send 0 0 7 ∷ " + GRANT + "[]")),
     ("a spent limit wipes nothing", T, "over_if over s k r = cond over (transferred s k managers)", "over_if over s k r = cond over (with_register s k managers)",
      "kept", "RunsAreLawful", number(WORDS, 1, 2, run="Delegate 0 0 1 1 5 ∷ Send 1 0 7 ∷ []")),
-    ("a reset leaves the mailbox's words", T, "(wiped_if (x == d.device) 8 (wiped_at d x d.mailboxes s.queues))", "(wiped_if (x == d.device) 8 s.queues)",
+    ("a reset leaves the mailbox's words", T, "(wiped_if (x == device d) 8 (wiped_at d x d.mailboxes s.queues))", "(wiped_if (x == device d) 8 s.queues)",
      "kept", "RunsAreLawful", number(WORDS, 1, 2, run="Send 0 0 7 ∷ " + RESET + "[]")),
     ("a receive leaves its word", T, "(charged c (with_queues s (change shrunk s.queues k)) k)", "(charged c s k)",
      "kept", "RunsAreLawful", number(WORDS, 1, 2, run=GRANT + "Send 1 0 7 ∷ Receive 2 0 ∷ []")),
@@ -85,17 +85,11 @@ SOURCE = """// An error is planted in the definitions, and the statement no long
 ghost use Rattle.rules.specs.Cases.{Table};
 ghost use Rattle.rules.specs.Laws.{RunsAreLawful};
 
+#[tactic(auto, using(crate::proofs::Denial::denial))]
 pub fn denied()
     ensures { STATEMENT → ⊥ }
 {
 }
-"""
-
-ANSWER = """use Rattle.rules.proofs.Denial.{denial}
-use Rattle.rules.proofs.theorems.denied.Goals as goal
-
-pub returns : goal.returns
-returns c = denial
 """
 
 DENIAL = """-- A run that shows it.
@@ -193,10 +187,7 @@ def plant(work, error):
     for path in (rules / "proofs").glob("*.antt"):
         if path.name not in ("Registers.antt", "Wirings.antt"):
             path.unlink()
-    shutil.rmtree(rules / "proofs/theorems")
-    (rules / "proofs/theorems/denied").mkdir(parents=True)
-    (rules / "proofs/theorems/denied/Answers.antt").write_text(ANSWER)
-    (rules / "proofs/Lib.antt").write_text("mod Denial\npub mod Registers\nmod Wirings\n")
+    (rules / "proofs/Lib.antt").write_text("pub mod Denial\npub mod Registers\npub mod Wirings\n")
     (rules / "proofs/Denial.antt").write_text(DENIAL.replace("STATEMENT", statement).replace("PROOF", proof))
     spec = (rules / file).read_text()
     if spec.count(old) != 1:

@@ -1,5 +1,5 @@
 -- One mailbox and its account in the ledger: what agrees before a command agrees after it.
-use Rattle.std.proofs.Common.{◌≡◌, ℕ, suc, ◌≤◌, Bool, true, false, cond, not, ◌||◌, eqb, List, [], sym, refl, ap, ◌∙◌, subst, ⊎_elim, arith}
+use Rattle.std.proofs.Common.{◌≡◌, ℕ, suc, ◌≤◌, Bool, true, false, cond, not, ◌||◌, eqb, List, [], sym, refl, ◌∙◌, subst, ⊎_elim, arith}
 use Rattle.std.proofs.lemmas.Bool.{cases_eq, or_parts, or_right, true≢false, false≢true}
 use Rattle.std.proofs.lemmas.Bool.Decides.{nat_tests}
 use Rattle.bank.specs.Queues.{Queue, wiped}
@@ -22,31 +22,32 @@ pub record Agrees (v : Mail) (e : Account) : Type 0 where
   pub tallies : Tallies v e
   pub standing : (e.holder ≡ 0 → ⊥) → due e ≡ false
 
+-- A figure that a register shows, limit or time, where the holder is h, and the grant's figure with its count is given: it
+-- stands while the count has not reached it, it is 0 exactly where the count has, and without a holder it is unlimited.
+module _ (h figure count shown : ℕ) (reads : shown ≡ left h figure count) where
+  figure_stands : figure ≤ 4095 → ((h ≡ 0 → ⊥) → reached count figure ≡ false) → Stands shown
+  figure_stands f n = grind (arith, nat_tests)
+
+  spent_reached : figure ≤ 4095 → (h ≡ 0 → ⊥) → eqb shown 0 ≡ reached count figure
+  spent_reached f n = grind (arith, nat_tests)
+
+  free_unspent : h ≡ 0 → eqb shown 0 ≡ false
+  free_unspent z = grind (arith, nat_tests)
+
 -- So a limit or time of 0 never stands, and none is above 4095.
 module _ (v : Mail) (e : Account) (a : Agrees v e) where
+  neither_due : (e.holder ≡ 0 → ⊥) → (reached e.accesses e.limit ≡ false) × (reached e.ticks e.time ≡ false)
+  neither_due n = or_parts (reached e.accesses e.limit) (reached e.ticks e.time) (a.standing n)
+
   pub limit_stands : Stands v.register.limit
-  limit_stands = let t = a.tallies.limit in let f = a.tallies.limit_fits in let n = a.standing in grind (arith, nat_tests)
+  limit_stands = let b = a.tallies in figure_stands e.holder e.limit e.accesses v.register.limit b.limit b.limit_fits (λ n. (neither_due n).0)
 
   pub time_stands : Stands v.register.time
-  time_stands = let t = a.tallies.time in let f = a.tallies.time_fits in let n = a.standing in grind (arith, nat_tests)
+  time_stands = let b = a.tallies in figure_stands e.holder e.time e.ticks v.register.time b.time b.time_fits (λ n. (neither_due n).1)
 
 -- an account after a command, where the holder was h; its words are wiped where the holder has changed, and by a reset
 abbrev pub closing : ℕ → Bool → Account → Account
 closing h reset e = cond (not (eqb e.holder h) || reset) (listing [] e) e
-
--- A figure is spent exactly where the count has reached it, while somebody holds the mailbox; and else it is unlimited.
-module _ (v : Mail) (e : Account) (a : Tallies v e) where
-  spent_reached : (e.holder ≡ 0 → ⊥) → spent v ≡ reached e.accesses e.limit
-  spent_reached n = let b = a.limit in let f = a.limit_fits in grind (arith, nat_tests)
-
-  expired_reached : (e.holder ≡ 0 → ⊥) → expired v ≡ reached e.ticks e.time
-  expired_reached n = let b = a.time in let f = a.time_fits in grind (arith, nat_tests)
-
-  free_unspent : e.holder ≡ 0 → spent v ≡ false
-  free_unspent h = let b = a.limit in grind (arith, nat_tests)
-
-  free_unexpired : e.holder ≡ 0 → expired v ≡ false
-  free_unexpired h = let b = a.time in grind (arith, nat_tests)
 
 -- Where a command ends the holding exactly if a count has reached its figure, mailbox and account agree after it.
 module _ (h : ℕ) (v : Mail) (e : Account) (a : Tallies v e) (same : e.holder ≡ h) where
@@ -57,10 +58,9 @@ module _ (h : ℕ) (v : Mail) (e : Account) (a : Tallies v e) (same : e.holder �
   goes_on d = grind (arith, nat_tests)
 
   vacant : e.holder ≡ 0 → (t : Bool) → Agrees v (closing h false (cond t (vacated e) e))
-  vacant z true = grind (arith, nat_tests)
-  vacant z false = grind (arith, nat_tests)
+  vacant z t = grind (arith, nat_tests)
 
-  pub judged_agrees : (over : Bool) → ((e.holder ≡ 0 → ⊥) → over ≡ due e) → (e.holder ≡ 0 → over ≡ false) → Agrees (closed_if over v) (closing h false (judged e))
+  judged_agrees : (over : Bool) → ((e.holder ≡ 0 → ⊥) → over ≡ due e) → (e.holder ≡ 0 → over ≡ false) → Agrees (closed_if over v) (closing h false (judged e))
   judged_agrees over held free = ⊎_elim (λ z. at_none z over (free z)) (λ n. at_some n over (due e) refl (held n)) (cases_eq e.holder 0)
     where
       at_none : e.holder ≡ 0 → (t : Bool) → t ≡ false → Agrees (closed_if t v) (closing h false (judged e))
@@ -104,22 +104,15 @@ module _ (v : Mail) (e : Account) (a : Agrees v e) where
       let u = counted c (listing ws e) in
       let b = paid_tallies c (queueing f v) (listing ws e) (listed f ws h) in
       judged_agrees e.holder w u b refl (spent w)
-      (λ n. spent_reached w u b n ∙ only (reached u.accesses u.limit) (or_parts (reached e.accesses e.limit) (reached e.ticks e.time) (a.standing n)).1)
-      (free_unspent w u b)
-    where
-      only : (p : Bool) → reached e.ticks e.time ≡ false → p ≡ (p || reached e.ticks e.time)
-      only true q = refl
-      only false q = sym q
+      (λ n. let p = (neither_due v e a n).1 in let q = spent_reached u.holder u.limit u.accesses w.register.limit b.limit b.limit_fits n in grind arith)
+      (free_unspent u.holder u.limit u.accesses w.register.limit b.limit)
 
   pub tick_agrees : Agrees (ticks v) (closing e.holder false (judged (older e)))
   tick_agrees =
       let b = aged_tallies v e a.tallies in
       judged_agrees e.holder (ages v) (older e) b refl (expired (ages v))
-      (λ n. expired_reached (ages v) (older e) b n ∙ only (reached (suc e.ticks) e.time) (or_parts (reached e.accesses e.limit) (reached e.ticks e.time) (a.standing n)).0)
-      (free_unexpired (ages v) (older e) b)
-    where
-      only : (p : Bool) → reached e.accesses e.limit ≡ false → p ≡ (reached e.accesses e.limit || p)
-      only p q = ap (λ (t : Bool). t || p) (sym q)
+      (λ n. let p = (neither_due v e a n).0 in let q = spent_reached e.holder e.time (suc e.ticks) (ages v).register.time b.time b.time_fits n in grind arith)
+      (free_unspent e.holder e.time (suc e.ticks) (ages v).register.time b.time)
 
   pub same_agrees : Agrees v (closing e.holder false (judged e))
   same_agrees = judged_agrees e.holder v e a.tallies refl false (λ n. sym (a.standing n)) (λ z. refl)

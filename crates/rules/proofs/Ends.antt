@@ -48,7 +48,7 @@ module _ (d : Description) (s u : State) (k : ℕ) (same : mail s k ≡ mail u k
   told_alike x (Pull c) h = absurd (false≢true h)
   told_alike x Tick h = (refl, λ v. refl)
 
-  pub left_alike : Sized s → Sized u → k < d.mailboxes → (x : ℕ) (c : Command) → concerns d k x c ≡ true → (answer d s c ≡ answer d u c) × (mail (next d s c) k ≡ mail (next d u c) k)
+  left_alike : Sized s → Sized u → k < d.mailboxes → (x : ℕ) (c : Command) → concerns d k x c ≡ true → (answer d s c ≡ answer d u c) × (mail (next d s c) k ≡ mail (next d u c) k)
   left_alike z y l x c h =
       let p = told_alike x c h in
       let ok : accepted d s c ≡ accepted d u c = sym (told_accepted (checks d s c) (value d s c)) ∙ ap is_ok p.0 ∙ told_accepted (checks d u c) (value d u c) in
@@ -59,15 +59,6 @@ module _ (d : Description) (s u : State) (k : ℕ) (same : mail s k ≡ mail u k
 module _ (d : Description) (s : State) (k x : ℕ) (held : owner s k ≡ x) where
   not_delegated : (c j to l t : ℕ) → (x ≡ 0 → ⊥) → accepted d s (Delegate c j to l t) ≡ true → eqb k j ≡ false
   not_delegated c j to l t n a = let f = (delegates d s c j to l t a).free in grind (arith, nat_tests)
-
-  not_yielded : (c j : ℕ) → concerns d k x (Yield c j) ≡ false → accepted d s (Yield c j) ≡ true → eqb k j ≡ false
-  not_yielded c j h a = grind (arith, nat_tests)
-
-  not_sent : (c j w : ℕ) → concerns d k x (Send c j w) ≡ false → accepted d s (Send c j w) ≡ true → eqb k j ≡ false
-  not_sent c j w h a = grind (arith, nat_tests)
-
-  not_received : (c j : ℕ) → concerns d k x (Receive c j) ≡ false → accepted d s (Receive c j) ≡ true → eqb k j ≡ false
-  not_received c j h a = grind (arith, nat_tests)
 
   -- the reset of a held mailbox's fixed domain is blocked
   not_reset : k < d.mailboxes → (x ≡ 0 → ⊥) → (y v : ℕ) → (resets d s y v && eqb (fixed d k) y) ≡ false
@@ -80,9 +71,9 @@ module _ (d : Description) (s : State) (k x : ℕ) (held : owner s k ≡ x) wher
 
   unmoved : k < d.mailboxes → (x ≡ 0 → ⊥) → (c : Command) → concerns d k x c ≡ false → accepted d s c ≡ true → moved d (resets d s) k c (mail s k) ≡ mail s k
   unmoved l n (Delegate c j to m t) h a = cond-false (eqb k j) (given (record { owner = to; limit = m; time = t }) (mail s k)) (mail s k) (not_delegated c j to m t n a)
-  unmoved l n (Yield c j) h a = cond-false (eqb k j) (given managers (mail s k)) (mail s k) (not_yielded c j h a)
-  unmoved l n (Send c j w) h a = cond-false (eqb k j) (accesses c (grown w) (mail s k)) (mail s k) (not_sent c j w h a)
-  unmoved l n (Receive c j) h a = cond-false (eqb k j) (accesses c shrunk (mail s k)) (mail s k) (not_received c j h a)
+  unmoved l n (Yield c j) h a = cond-false (eqb k j) (given managers (mail s k)) (mail s k) (grind (arith, nat_tests))
+  unmoved l n (Send c j w) h a = cond-false (eqb k j) (accesses c (grown w) (mail s k)) (mail s k) (grind (arith, nat_tests))
+  unmoved l n (Receive c j) h a = cond-false (eqb k j) (accesses c shrunk (mail s k)) (mail s k) (grind (arith, nat_tests))
   unmoved l n (Status c j) h a = refl
   unmoved l n (GuardWrite c y v) h a = cond-false (resets d s y v && eqb (fixed d k) y) (queueing wiped (mail s k)) (mail s k) (not_reset l n y v)
   unmoved l n (GuardRead c y) h a = refl
@@ -91,7 +82,7 @@ module _ (d : Description) (s : State) (k x : ℕ) (held : owner s k ≡ x) wher
   unmoved l n (Pull c) h a = refl
   unmoved l n Tick h a = absurd (true≢false h)
 
-  pub unaffected : Sized s → k < d.mailboxes → (x ≡ 0 → ⊥) → (c : Command) → concerns d k x c ≡ false → mail (next d s c) k ≡ mail s k
+  unaffected : Sized s → k < d.mailboxes → (x ≡ 0 → ⊥) → (c : Command) → concerns d k x c ≡ false → mail (next d s c) k ≡ mail s k
   unaffected z l n c h = next_seen d s z k l c ∙ go (accepted d s c) refl
     where
       go : (t : Bool) → accepted d s c ≡ t → cond t (moved d (resets d s) k c (mail s k)) (mail s k) ≡ mail s k

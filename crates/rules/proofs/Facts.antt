@@ -1,5 +1,5 @@
 -- What follows from a command's being accepted, and from a test over all mailboxes.
-use Rattle.std.proofs.Common.{◌≡◌, ℕ, zero, suc, ◌<◌, ◌≤◌, Bool, true, false, cond, ◌||◌, eqb, List, [], ◌∷◌, is_ok, Ok, Err, sym, refl, arith}
+use Rattle.std.proofs.Common.{◌≡◌, ℕ, zero, suc, ◌<◌, ◌≤◌, Bool, true, false, ◌||◌, eqb, List, [], ◌∷◌, is_ok, Ok, sym, refl, arith}
 use Rattle.std.proofs.lemmas.Bool.{true≢false}
 use Rattle.std.proofs.lemmas.Bool.Decides.{nat_tests}
 use Rattle.bank.specs.Queues.{empty}
@@ -30,19 +30,11 @@ some_found (suc n) p h = go (p n) refl h (some_found n p)
 -- An answer tells whether its command was accepted, and then it is the value.
 pub told_accepted : (cs : List Check) (v : ℕ) → is_ok (first_met cs v) ≡ none_met cs
 told_accepted [] v = refl
-told_accepted (c ∷ cs) v = go (told_accepted cs v) c.0
-  where
-    go : is_ok (first_met cs v) ≡ none_met cs → (b : Bool) → is_ok (cond b (Err c.1) (first_met cs v)) ≡ cond b false (none_met cs)
-    go e true = refl
-    go e false = e
+told_accepted (c ∷ cs) v = let more = told_accepted cs v in grind arith
 
 pub told_value : (cs : List Check) (v : ℕ) → none_met cs ≡ true → first_met cs v ≡ Ok v
 told_value [] v h = refl
-told_value (c ∷ cs) v h = go (told_value cs v) c.0 h
-  where
-    go : (none_met cs ≡ true → first_met cs v ≡ Ok v) → (b : Bool) → cond b false (none_met cs) ≡ true → cond b (Err c.1) (first_met cs v) ≡ Ok v
-    go f true h = absurd (true≢false (sym h))
-    go f false h = f h
+told_value (c ∷ cs) v h = let more = told_value cs v in grind arith
 
 module _ (d : Description) (s : State) where
   pub record Delegates (c k to l t : ℕ) : Type 0 where

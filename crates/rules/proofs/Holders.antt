@@ -10,7 +10,7 @@ use Rattle.rules.specs.declared.register.Register.{Register}
 use Rattle.rules.specs.declared.route.Route.{Route}
 use Rattle.rules.specs.declared.route.Route.TheVariants.{Own, Dma}
 use Rattle.rules.specs.Checks.{accepted}
-use Rattle.rules.specs.Description.{fixed, is_wired}
+use Rattle.rules.specs.Description.{device, fixed, is_wired, untrusted}
 use Rattle.rules.specs.Laws.{Runs}
 use Rattle.rules.specs.Ledger.{Account, Event, Ledger, counted, due, entered, fed, fed_all, granted, judged, listing, noted, opened, vacated, wipes}
 use Rattle.rules.specs.Ownership.{entitled, entitles}
@@ -29,7 +29,7 @@ abbrev Rightful : Description → ℕ → Account → Type 0
 Rightful d k e = (eqb e.holder 0 || is_wired d k e.holder) ≡ true
 
 module _ (d : Description) (s : State) (k : ℕ) (e : Account) (h : Rightful d k e) where
-  pub entered_rightful : (c : Command) → accepted d s c ≡ true → Rightful d k (entered k c e)
+  entered_rightful : (c : Command) → accepted d s c ≡ true → Rightful d k (entered k c e)
   entered_rightful (Delegate c j to l t) a =
       cond_both (eqb k j) (granted to l t e) e (Rightful d k)
       (λ q. or_right (eqb to 0) (is_wired d k to) (subst (λ (i : ℕ). is_wired d i to ≡ true) (sym (eqb-true k j q)) (delegates d s c j to l t a).wired)) (λ q. h)
@@ -66,11 +66,11 @@ delegated_fair : (d : Description) (s : State) (j : ℕ) (r : Register) → owne
 delegated_fair d s j r free h =
     let p = some_found d.mailboxes (entitles d (owner s)) h in
     let k = p.0 in
-    let q = and_parts (eqb (owner s k) d.untrusted) (eqb (fixed d k) d.device) p.2 in
+    let q = and_parts (eqb (owner s k) (untrusted d)) (eqb (fixed d k) (device d)) p.2 in
     let other : k ≢ j = λ e.
-    fixed_someone d k p.1 (eqb-true (fixed d k) d.device q.1 ∙ device_with_untrusted d (sym (eqb-true (owner s k) d.untrusted q.0) ∙ ap (owner s) e ∙ free)) in
+    fixed_someone d k p.1 (eqb-true (fixed d k) (device d) q.1 ∙ device_with_untrusted d (sym (eqb-true (owner s k) (untrusted d) q.0) ∙ ap (owner s) e ∙ free)) in
     some_here d.mailboxes (entitles d (owner (transferred s j r))) k p.1
-    (ap (λ (v : Mail). eqb v.register.owner d.untrusted && eqb (fixed d k) d.device) (transferred_there s j k other r) ∙ p.2)
+    (ap (λ (v : Mail). eqb v.register.owner (untrusted d) && eqb (fixed d k) (device d)) (transferred_there s j k other r) ∙ p.2)
 
 act_fair : (d : Description) (s : State) → Sized s → Fair d s → (c : Command) → accepted d s c ≡ true → Fair d (act d s c)
 act_fair d s z f (Delegate c j to l t) a = λ h. delegated_fair d s j (record { owner = to; limit = l; time = t }) (delegates d s c j to l t a).free (f h)
@@ -121,8 +121,8 @@ module _ (d : Description) (s : State) (b : Ledger) (p : Proper d s b) where
       let v = subst (λ (x : ℕ). (eqb x 0 || is_wired d k x) ≡ true) (sym (p.in_step.mails k l).tallies.owner) (p.rightful k) in
       ⊎_elim (λ z. inl (eqb-true (owner s k) 0 z)) (λ z. inr z) (or_cases (eqb (owner s k) 0) (is_wired d k (owner s k)) v)
 
-  pub fed_entitled : s.route ≡ Dma → (k : ℕ) × (k < d.mailboxes) × (owner s k ≡ d.untrusted) × (fixed d k ≡ d.device)
+  pub fed_entitled : s.route ≡ Dma → (k : ℕ) × (k < d.mailboxes) × (owner s k ≡ (untrusted d)) × (fixed d k ≡ (device d))
   fed_entitled h =
       let r = some_found d.mailboxes (entitles d (owner s)) (p.fair h) in
-      let q = and_parts (eqb (owner s r.0) d.untrusted) (eqb (fixed d r.0) d.device) r.2 in
-      (r.0, r.1, eqb-true (owner s r.0) d.untrusted q.0, eqb-true (fixed d r.0) d.device q.1)
+      let q = and_parts (eqb (owner s r.0) (untrusted d)) (eqb (fixed d r.0) (device d)) r.2 in
+      (r.0, r.1, eqb-true (owner s r.0) (untrusted d) q.0, eqb-true (fixed d r.0) (device d) q.1)

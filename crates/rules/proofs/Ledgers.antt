@@ -2,6 +2,7 @@
 use Rattle.std.proofs.Common.{◌≡◌, ℕ, ◌<◌, Bool, true, false, cond, not, ◌&&◌, eqb, List, [], ◌∷◌, ◌++◌, get_or, set, is_ok, sym, refl, ap, ◌∙◌, subst, arith}
 use Rattle.std.proofs.lemmas.List.{get_or-set_same, get_or-set_other}
 use Rattle.std.proofs.lemmas.Bool.{and_parts, and_right, cond_both, eqb-true, eqb-false, eq-eqb}
+use Rattle.std.proofs.Math.Bool.{and-true}
 use Rattle.fifo.specs.Row.{rest}
 use Rattle.bank.specs.Queues.{grown, shrunk}
 use Rattle.rules.specs.declared.command.Command.{Command}
@@ -61,14 +62,10 @@ module _ (d : Description) (s : State) (b : Ledger) (r : InStep d s b) where
         go true p =
             let q = eqb-true (fixed d k) x p in
             subst (λ (y : ℕ). (resets d s x v && true) ≡ (tries (effect (b.guard y).stance v) && not (blocked d (holders b) y))) (sym q)
-            (true_right (resets d s x v) ∙ (λ i. tries (effect (r.guards x low i).stance v) && not (blocked_same x i)))
-          where
-            true_right : (t : Bool) → (t && true) ≡ t
-            true_right true = refl
-            true_right false = refl
+            (and-true (resets d s x v) ∙ (λ i. tries (effect (r.guards x low i).stance v) && not (blocked_same x i)))
         go false p = and_right (resets d s x v) false refl
 
-    pub moved_agrees : (c : Command) → accepted d s c ≡ true → Agrees (moved d (resets d s) k c (mail s k)) (posted d b c k)
+    moved_agrees : (c : Command) → accepted d s c ≡ true → Agrees (moved d (resets d s) k c (mail s k)) (posted d b c k)
     moved_agrees (Delegate c j to m t) a =
         let p = delegates d s c j to m t a in
         at_agrees (eqb k j) (given (record { owner = to; limit = m; time = t }) (mail s k)) (granted to m t (b.account k))
@@ -132,7 +129,7 @@ module _ (d : Description) (s : State) (b : Ledger) (r : InStep d s b) where
   }
 
   -- after a command that is accepted or refused
-  pub next_in_step : (c : Command) → InStep d (next d s c) (cond (accepted d s c) (noted d b c) b)
+  next_in_step : (c : Command) → InStep d (next d s c) (cond (accepted d s c) (noted d b c) b)
   next_in_step c = go (accepted d s c) refl
     where
       go : (t : Bool) → accepted d s c ≡ t → InStep d (cond t (act d s c) s) (cond t (noted d b c) b)

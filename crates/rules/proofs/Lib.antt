@@ -10,8 +10,8 @@ pub mod Moves
 pub mod Registers
 pub mod Resets
 mod Runs
-mod Tables
 pub mod TwoRuns
 pub mod Views
+pub mod Wipes
 mod Wirings
 pub mod Words

@@ -9,7 +9,7 @@ use Rattle.rules.specs.declared.route.Route.{Route}
 use Rattle.rules.specs.declared.route.Route.TheVariants.{Own, Dma}
 use Rattle.rules.specs.declared.register.Register.{Register}
 use Rattle.rules.specs.Checks.{accepted}
-use Rattle.rules.specs.Description.{fixed}
+use Rattle.rules.specs.Description.{device, fixed}
 use Rattle.rules.specs.Register.{managers}
 use Rattle.rules.specs.Route.{pulls_from, streams_to}
 use Rattle.rules.specs.State.{State, register}
@@ -37,7 +37,7 @@ streams_apart Own k l = λ e. omega arith
 streams_apart Dma k l = λ e. omega arith
 
 pulls_apart : (d : Description) (c k : ℕ) → k < 8 → k ≢ pulls_from d c
-pulls_apart d c k l = cond_both (eqb c d.device) 8 9 (λ q. k ≢ q) (λ t e. omega arith) (λ t e. omega arith)
+pulls_apart d c k l = cond_both (eqb c (device d)) 8 9 (λ q. k ≢ q) (λ t e. omega arith) (λ t e. omega arith)
 
 module _ (d : Description) (s : State) (z : Sized s) where
   transferred_seen : (j k : ℕ) → k < 8 → (r : Register) → mail (transferred s j r) k ≡ cond (eqb k j) (given r (mail s k)) (mail s k)
@@ -93,12 +93,10 @@ module _ (d : Description) (s : State) (z : Sized s) where
 -- No command alters a depth.
 module _ (d : Description) (resetting : ℕ → ℕ → Bool) (k : ℕ) (v : Mail) where
   same_depth : (t : Bool) (w : Mail) → w.queue.depth ≡ v.queue.depth → (cond t w v).queue.depth ≡ v.queue.depth
-  same_depth true w e = e
-  same_depth false w e = refl
+  same_depth t w e = cond_both t w v (λ (u : Mail). u.queue.depth ≡ v.queue.depth) (λ p. e) (λ p. refl)
 
   closed_depth : (t : Bool) (w : Mail) → w.queue.depth ≡ v.queue.depth → (closed_if t w).queue.depth ≡ v.queue.depth
-  closed_depth true w e = e
-  closed_depth false w e = e
+  closed_depth t w e = cond_both t (given managers w) w (λ (u : Mail). u.queue.depth ≡ v.queue.depth) (λ p. e) (λ p. e)
 
   pub moved_depth : (c : Command) → (moved d resetting k c v).queue.depth ≡ v.queue.depth
   moved_depth (Delegate c j to l t) = same_depth (eqb k j) (given (record { owner = to; limit = l; time = t }) v) refl

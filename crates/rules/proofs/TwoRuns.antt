@@ -1,6 +1,6 @@
 -- From equal delegations on, both ends of a mailbox see the same in two runs.
-use Rattle.std.proofs.Common.{◌≡◌, ℕ, ◌<◌, Bool, true, false, cond, eqb, List, [], ◌∷◌, ◌++◌, sym, refl, ap, ◌∙◌, subst}
-use Rattle.std.proofs.lemmas.Bool.{cond-true, eq-eqb}
+use Rattle.std.proofs.Common.{◌≡◌, ℕ, ◌<◌, true, cond, eqb, List, [], ◌∷◌, ◌++◌, sym, refl, ap, ◌∙◌, subst}
+use Rattle.std.proofs.lemmas.Bool.{cond-true, cond_both, eq-eqb}
 use Rattle.rules.specs.declared.command.Command.{Command}
 use Rattle.rules.specs.declared.description.Description.{Description}
 use Rattle.rules.specs.declared.register.Register.{Register}
@@ -18,18 +18,16 @@ use Rattle.rules.proofs.Views.{Mail, mail, Sized, given}
 
 -- No run alters a depth.
 next_depth : (d : Description) (s : State) → Sized s → (k : ℕ) → k < d.mailboxes → (c : Command) → (queue (next d s c) k).depth ≡ (queue s k).depth
-next_depth d s z k l c = ap (λ (v : Mail). v.queue.depth) (next_seen d s z k l c) ∙ go (accepted d s c)
-  where
-    go : (t : Bool) → (cond t (moved d (resets d s) k c (mail s k)) (mail s k)).queue.depth ≡ (queue s k).depth
-    go true = moved_depth d (resets d s) k (mail s k) c
-    go false = refl
+next_depth d s z k l c = ap (λ (v : Mail). v.queue.depth) (next_seen d s z k l c)
+    ∙ cond_both (accepted d s c) (moved d (resets d s) k c (mail s k)) (mail s k) (λ (v : Mail). v.queue.depth ≡ (queue s k).depth)
+    (λ t. moved_depth d (resets d s) k (mail s k) c) (λ t. refl)
 
 run_depth : (d : Description) (s : State) (b : Ledger) → InStep d s b → (es : List Event) (t : State) → Runs d s es t → (k : ℕ) → k < d.mailboxes → (queue t k).depth ≡ (queue s k).depth
 run_depth d s b r [] t q k l = ap (λ (u : State). (queue u k).depth) (sym q)
 run_depth d s b r (e ∷ es) t q k l = run_depth d (next d s e.command) (fed d b e) (fed_in_step d s b r e q.0) es t q.1 k l ∙ next_depth d s r.sized k l e.command
 
 -- A run in parts.
-pub runs_join : (d : Description) (s : State) (es fs : List Event) (t u : State) → Runs d s es t → Runs d t fs u → Runs d s (es ++ fs) u
+runs_join : (d : Description) (s : State) (es fs : List Event) (t u : State) → Runs d s es t → Runs d t fs u → Runs d s (es ++ fs) u
 runs_join d s [] fs t u q q' = subst (λ (v : State). Runs d v fs u) (sym q) q'
 runs_join d s (e ∷ es) fs t u q q' = (q.0, runs_join d (next d s e.command) es fs t u q.1 q')
 
@@ -38,7 +36,7 @@ pub record Parted (d : Description) (s : State) (es fs : List Event) (u : State)
   pub before : Runs d s es between
   pub after : Runs d between fs u
 
-pub runs_part : (d : Description) (s : State) (es fs : List Event) (u : State) → Runs d s (es ++ fs) u → Parted d s es fs u
+runs_part : (d : Description) (s : State) (es fs : List Event) (u : State) → Runs d s (es ++ fs) u → Parted d s es fs u
 runs_part d s [] fs u q = record { between = s; before = refl; after = q }
 runs_part d s (e ∷ es) fs u q =
     let p = runs_part d (next d s e.command) es fs u q.1 in

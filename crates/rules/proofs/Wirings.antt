@@ -1,11 +1,8 @@
--- Wirings are judged one after another.
-use Rattle.std.proofs.Common.{◌≡◌, ℕ, ◌+◌, ◌<◌, Bool, ◌&&◌, List, length, get_or, drop, sym, ap, ◌∙◌}
-use Rattle.std.proofs.lemmas.List.{at_drop_more}
-use Rattle.rules.specs.declared.description.Wiring.{Wiring}
-use Rattle.rules.specs.Description.{no_wiring}
-use Rattle.rules.specs.Plan.{wiring_ok, wirings_ok}
+-- Eight places with the mailboxes' wirings written over the first of them.
+use Rattle.std.proofs.Common.{◌≡◌, List, ◌++◌, length, drop, replicate, ap, ◌∙◌}
+use Rattle.std.proofs.lemmas.List.{drop-replicate}
+use Rattle.rules.specs.declared.wiring.Wiring.{Wiring}
+use Rattle.rules.specs.Wiring.{no_wiring, padded}
 
--- the verdict on one wiring, before the verdict on those behind it
-pub one_more : (n : ℕ) (ws : List Wiring) (i : ℕ) (verdict : Bool) → i < length ws → verdict ≡ wiring_ok n (get_or ws i no_wiring)
-    → wirings_ok n (drop i ws) ≡ (verdict && wirings_ok n (drop (i + 1) ws))
-one_more n ws i verdict h e = at_drop_more (wirings_ok n) ws i no_wiring h ∙ ap (λ b. b && wirings_ok n (drop (i + 1) ws)) (sym e)
+pub written_over : (ws front : List Wiring) → front ≡ ws → front ++ drop (length ws) (replicate 8 no_wiring) ≡ padded ws
+written_over ws front e = ap (λ (l : List Wiring). l ++ drop (length ws) (replicate 8 no_wiring)) e ∙ ap (λ (l : List Wiring). ws ++ l) (drop-replicate (length ws) 8 no_wiring)

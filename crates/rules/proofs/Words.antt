@@ -22,8 +22,7 @@ headed (w ∷ ws) n = refl
 
 -- a case for the mailbox that a command names, and one for the others
 named : (t : Bool) (f e : Account) → (t ≡ true → f.words ≡ e.words) → e.words ≡ (cond t f e).words
-named true f e h = sym (h refl)
-named false f e h = refl
+named t f e h = cond_both t f e (λ (u : Account). e.words ≡ u.words) (λ p. sym (h p)) (λ p. refl)
 
 -- What an accepted command puts in and takes out is what the ledger enters, before anything is wiped.
 module _ (d : Description) (s : State) (k : ℕ) (e : Account) (q : (queue s k).words ≡ e.words) where

@@ -1,11 +1,11 @@
 -- The table of cases: what the rules say on examples that everybody agrees on, over queues of depth 16.
-use Rattle.std.specs.Prelude.{◌≡◌, ℕ, List, [], ◌∷◌, ◌++◌, replicate, refl}
+use Rattle.std.specs.Prelude.{◌≡◌, ℕ, List, [], ◌∷◌, ◌++◌, replicate, Some, None, refl}
 use Rattle.std.proofs.Common.{lit≤}
 use Rattle.rules.specs.declared.command.Command.{Command}
 use Rattle.rules.specs.declared.command.Command.TheVariants.{Delegate, Yield, Send, Receive, Status, GuardWrite, GuardRead, Arbiter, Stream, Pull, Tick}
 use Rattle.rules.specs.declared.description.Description.{Description}
-use Rattle.rules.specs.declared.description.Direction.TheVariants.{FixedSends, OwnerSends}
-use Rattle.rules.specs.Description.{padded}
+use Rattle.rules.specs.declared.wiring.Direction.TheVariants.{FixedSends, OwnerSends}
+use Rattle.rules.specs.Wiring.{padded}
 use Rattle.rules.specs.Guard.{arm, try}
 use Rattle.rules.specs.Refusal.{code, value_of}
 use Rattle.rules.specs.Route.{dma, own}
@@ -27,8 +27,7 @@ abbrev pub house : Description
 house = record {
   domains = 5;
   mailboxes = 2;
-  device = 2;
-  untrusted = 1;
+  arbiter = Some (record { device = 2; untrusted = 1 });
   wirings = padded (record { fixed = 2; direction = OwnerSends; wired = 0b01011 } ∷ record { fixed = 4; direction = FixedSends; wired = 0b00011 } ∷ []);
   few = lit≤ tt;
   fewer = lit≤ tt;
@@ -41,8 +40,7 @@ abbrev pub small : Description
 small = record {
   domains = 3;
   mailboxes = 1;
-  device = 0;
-  untrusted = 0;
+  arbiter = None;
   wirings = padded (record { fixed = 2; direction = OwnerSends; wired = 0b011 } ∷ []);
   few = lit≤ tt;
   fewer = lit≤ tt;

@@ -1,15 +1,15 @@
 -- Why a command is refused. Here and in the transition d is the description, s a state, c the caller, k a mailbox, x a
 -- domain, q a queue, l a limit, t a time, w a word and v a value.
-use Rattle.std.specs.Prelude.{ℕ, Bool, true, false, cond, not, ◌&&◌, ◌||◌, List, [], ◌∷◌, Ok, Err, ◌==◌, nat_le, nat_lt}
+use Rattle.std.specs.Prelude.{ℕ, Bool, true, false, cond, not, ◌&&◌, ◌||◌, List, [], ◌∷◌, Ok, Err, is_none, ◌==◌, nat_le, nat_lt}
 use Rattle.bank.specs.Queues.{empty, full}
 use Rattle.rules.specs.declared.command.Command.{Command}
 use Rattle.rules.specs.declared.command.Command.TheVariants.{Delegate, Yield, Send, Receive, Status, GuardWrite, GuardRead, Arbiter, Stream, Pull, Tick}
 use Rattle.rules.specs.declared.description.Description.{Description}
-use Rattle.rules.specs.declared.description.Direction.{Direction}
-use Rattle.rules.specs.declared.description.Direction.TheVariants.{FixedSends, OwnerSends}
+use Rattle.rules.specs.declared.wiring.Direction.{Direction}
+use Rattle.rules.specs.declared.wiring.Direction.TheVariants.{FixedSends, OwnerSends}
 use Rattle.rules.specs.declared.refusal.Refusal.{Refusal}
 use Rattle.rules.specs.declared.refusal.Refusal.TheVariants.{UnknownCaller, UnknownMailbox, UnknownDomain, NoArbiter, NotPermitted, NotItsMailbox, WrongDirection, NotWired, OutOfRange, UnknownRoute, NotEntitled, QueueFull, QueueEmpty}
-use Rattle.rules.specs.Description.{fixed, is_wired, wiring}
+use Rattle.rules.specs.Description.{device, fixed, is_wired, untrusted, wiring}
 use Rattle.rules.specs.Ownership.{entitled}
 use Rattle.rules.specs.Refusal.{Answer}
 use Rattle.rules.specs.Register.{unlimited}
@@ -31,7 +31,7 @@ abbrev pub unknown_domain : Description → ℕ → Check
 unknown_domain d x = (x == 0 || nat_le d.domains x, UnknownDomain)
 
 abbrev pub no_arbiter : Description → Check
-no_arbiter d = ((d.device == 0), NoArbiter)
+no_arbiter d = (is_none d.arbiter, NoArbiter)
 
 abbrev pub not_manager : ℕ → Check
 not_manager c = (not (c == 0), NotPermitted)
@@ -40,7 +40,7 @@ abbrev pub is_manager : ℕ → Check
 is_manager c = ((c == 0), NotPermitted)
 
 abbrev pub no_puller : Description → ℕ → Check
-no_puller d c = (not (c == d.device) && not (c == d.untrusted), NotPermitted)
+no_puller d c = (not (c == device d) && not (c == untrusted d), NotPermitted)
 
 abbrev pub not_owner : State → ℕ → ℕ → Check
 not_owner s c k = (not (c == owner s k), NotItsMailbox)

@@ -5,7 +5,7 @@ use Rattle.rules.specs.declared.command.Command.{Command}
 use Rattle.rules.specs.declared.description.Description.{Description}
 use Rattle.rules.specs.declared.route.Route.TheVariants.{Dma}
 use Rattle.rules.specs.Checks.{Check, checks}
-use Rattle.rules.specs.Description.{fixed, is_wired}
+use Rattle.rules.specs.Description.{device, fixed, is_wired, untrusted}
 use Rattle.rules.specs.Ends.{AlikeAt}
 use Rattle.rules.specs.Ledger.{Event, ledger, opened, reading}
 use Rattle.rules.specs.Refusal.{number}
@@ -50,7 +50,7 @@ pub record Lawful (d : Description) (qs : List Queue) (es : List Event) (t : Sta
   -- an owner is the manager or a domain wired to the mailbox
   pub wired : (k : ℕ) → k < d.mailboxes → (owner t k ≡ 0) ⊎ (is_wired d k (owner t k) ≡ true)
   -- the untrusted domain is fed only while it owns a mailbox fixed at the device domain
-  pub fed : t.route ≡ Dma → (k : ℕ) × (k < d.mailboxes) × (owner t k ≡ d.untrusted) × (fixed d k ≡ d.device)
+  pub fed : t.route ≡ Dma → (k : ℕ) × (k < d.mailboxes) × (owner t k ≡ untrusted d) × (fixed d k ≡ device d)
   -- the words sent are those that left and then those that wait, and so they add up
   pub kept : (k : ℕ) → k < d.mailboxes → all_sent k es ≡ all_left d opened k es ++ (queue t k).words
   pub counted : (k : ℕ) → k < d.mailboxes → length (all_sent k es) ≡ length (all_received k es) + length (all_wiped d opened k es) + length (queue t k).words

@@ -13,3 +13,4 @@ pub mod Route
 pub mod State
 pub mod Transition
 pub mod Words
+pub mod Wiring

@@ -1,7 +1,7 @@
 -- Two questions about who owns which mailbox; `owners k` is the owner of mailbox k.
 use Rattle.std.specs.Prelude.{ℕ, zero, suc, Bool, false, not, ◌&&◌, ◌||◌, ◌==◌}
 use Rattle.rules.specs.declared.description.Description.{Description}
-use Rattle.rules.specs.Description.{fixed}
+use Rattle.rules.specs.Description.{device, fixed, untrusted}
 
 -- a number below n passes the test
 abbrev pub some_below : ℕ → (ℕ → Bool) → Bool
@@ -17,7 +17,7 @@ blocked d owners x = some_below d.mailboxes (blocks d owners x)
 
 -- The untrusted domain is entitled to streamed words while it owns a mailbox fixed at the device domain.
 abbrev pub entitles : Description → (ℕ → ℕ) → ℕ → Bool
-entitles d owners k = owners k == d.untrusted && fixed d k == d.device
+entitles d owners k = owners k == untrusted d && fixed d k == device d
 
 abbrev pub entitled : Description → (ℕ → ℕ) → Bool
 entitled d owners = some_below d.mailboxes (entitles d owners)

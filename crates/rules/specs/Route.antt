@@ -3,6 +3,7 @@ use Rattle.std.specs.Prelude.{ℕ, cond, ◌==◌}
 use Rattle.rules.specs.declared.description.Description.{Description}
 use Rattle.rules.specs.declared.route.Route.{Route}
 use Rattle.rules.specs.declared.route.Route.TheVariants.{Own, Dma}
+use Rattle.rules.specs.Description.{device}
 
 -- the value that selects DMA, and the value that selects the device's own queue
 abbrev pub dma : ℕ
@@ -20,4 +21,4 @@ streams_to Own = 8
 streams_to Dma = 9
 
 abbrev pub pulls_from : Description → ℕ → ℕ
-pulls_from d c = cond (c == d.device) 8 9
+pulls_from d c = cond (c == device d) 8 9

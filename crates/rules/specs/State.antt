@@ -1,5 +1,5 @@
 -- The state of a rack: the register of each mailbox, the guard of each domain, the arbiter's route, and the bank's queues.
-use Rattle.std.specs.Prelude.{ℕ, zero, suc, List, replicate, slice_index_or, slice_set}
+use Rattle.std.specs.Prelude.{ℕ, zero, suc, Bool, true, cond, List, replicate, slice_index_or, slice_set}
 use Rattle.bank.specs.Queues.{Queue, at, change, wiped}
 use Rattle.rules.specs.declared.guard.Guard.{Guard}
 use Rattle.rules.specs.declared.guard.Stance.TheVariants.{Idle}
@@ -48,10 +48,17 @@ with_route s r = record { registers = s.registers; guards = s.guards; route = r;
 abbrev pub with_queues : State → List Queue → State
 with_queues s qs = record { registers = s.registers; guards = s.guards; route = s.route; queues = qs }
 
+abbrev pub wiped_if : Bool → ℕ → List Queue → List Queue
+wiped_if t q qs = cond t (change wiped qs q) qs
+
+-- each queue below n that passes the test is wiped
+abbrev pub wiped_where : (ℕ → Bool) → ℕ → List Queue → List Queue
+wiped_where test zero qs = qs
+wiped_where test (suc n) qs = wiped_if (test n) n (wiped_where test n qs)
+
 -- the first n queues are wiped
 abbrev pub wiped_below : ℕ → List Queue → List Queue
-wiped_below zero qs = qs
-wiped_below (suc n) qs = change wiped (wiped_below n qs) n
+wiped_below n qs = wiped_where (λ q. true) n qs
 
 -- A rack as it is made, over a bank with the given queues: each mailbox is the manager's, each guard fresh, and no word
 -- waits. There is room for 8 mailboxes and 16 domains, whatever the description says.

@@ -7,13 +7,13 @@ use Rattle.rules.specs.declared.description.Description.{Description}
 use Rattle.rules.specs.declared.register.Register.{Register}
 use Rattle.rules.specs.declared.route.Route.TheVariants.{Own}
 use Rattle.rules.specs.Checks.{accepted, checks, first_met, stranger}
-use Rattle.rules.specs.Description.{fixed}
+use Rattle.rules.specs.Description.{device, fixed, untrusted}
 use Rattle.rules.specs.Guard.{effect, left_by, tries}
 use Rattle.rules.specs.Ownership.{blocked, entitled}
 use Rattle.rules.specs.Refusal.{Answer}
 use Rattle.rules.specs.Register.{accessed, managers, packed, ticked}
 use Rattle.rules.specs.Route.{pulls_from, selected, streams_to}
-use Rattle.rules.specs.State.{State, guard, owner, queue, register, with_guard, with_queues, with_register, with_route}
+use Rattle.rules.specs.State.{State, guard, owner, queue, register, wiped_if, wiped_where, with_guard, with_queues, with_register, with_route}
 
 -- what a stranger reads in place of the register
 abbrev pub concealed : ℕ
@@ -62,13 +62,9 @@ all_aged (suc n) s = aged (all_aged n s) n
 abbrev pub fallen_back : Description → State → State → State
 fallen_back d s t = with_route t (cond (entitled d (owner s) && not (entitled d (owner t))) Own t.route)
 
-abbrev pub wiped_if : Bool → ℕ → List Queue → List Queue
-wiped_if t q qs = cond t (change wiped qs q) qs
-
 -- each mailbox below n whose fixed domain is x is wiped
 abbrev pub wiped_at : Description → ℕ → ℕ → List Queue → List Queue
-wiped_at d x zero qs = qs
-wiped_at d x (suc n) qs = wiped_if (fixed d n == x) n (wiped_at d x n qs)
+wiped_at d x n qs = wiped_where (λ k. fixed d k == x) n qs
 
 -- The reset of domain x wipes each mailbox of that fixed domain; that of the device domain also queue 8, and the arbiter
 -- is 0 again; that of the untrusted domain queue 9.
@@ -76,8 +72,8 @@ abbrev pub reset : Description → ℕ → State → State
 reset d x s = record {
   registers = s.registers;
   guards = s.guards;
-  route = cond (x == d.device) Own s.route;
-  queues = wiped_if (x == d.untrusted) 9 (wiped_if (x == d.device) 8 (wiped_at d x d.mailboxes s.queues));
+  route = cond (x == device d) Own s.route;
+  queues = wiped_if (x == untrusted d) 9 (wiped_if (x == device d) 8 (wiped_at d x d.mailboxes s.queues));
 }
 
 -- value v, written to the guard of domain x, resets the domain

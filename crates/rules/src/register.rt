@@ -1,10 +1,13 @@
-// The state register: who owns a mailbox, and how many accesses and ticks are left to its owner.
+//! The state register: who owns a mailbox, and how many accesses and ticks are left to its owner.
 ghost use Rattle.std.specs.Prelude.{◌≡◌, ◌+◌, ◌*◌, ◌%◌, ◌^◌, ◌≤◌};
 ghost use Rattle.rules.specs.Register.{accessed, fallen, managers, packed, ticked, unlimited, unpacked};
 
-// The limit and the time that never fall.
+/// The limit and the time that never fall.
+// It stays a figure: a delegation grants 4095 as it does any other, and an enum would have a second value, `Finite(4095)`,
+// for the same twelve bits.
 pub const UNLIMITED: u16 = 4095;
 
+/// Who owns a mailbox, and the accesses and ticks that are left.
 #[derive(Clone, Copy, PartialEq, Eq, Debug)]
 pub struct Register {
     pub owner: u8,
@@ -23,16 +26,6 @@ fn fall(figure: u16) -> u16
     }
 }
 
-// Owner, limit and time side by side in a word, where limit and time fit their 12 bits.
-fn joined(owner: u8, limit: u16, time: u16) -> u32
-    requires limit { limit ≤ unlimited }
-    requires time { time ≤ unlimited }
-    ensures word { result ≡ owner * 2 ^ 24 + limit * 2 ^ 12 + time }
-    ensures parts { unpacked result ≡ record { owner = owner; limit = limit; time = time } }
-{
-    u32::from(owner) << 24 | u32::from(limit) << 12 | u32::from(time)
-}
-
 // The lowest 12 bits.
 fn figure(word: u32) -> u16
     ensures { result ≡ word % 2 ^ 12 }
@@ -40,8 +33,21 @@ fn figure(word: u32) -> u16
     (word & 0xFFF) as u16
 }
 
+/// Every word shows a register.
+impl From<u32> for Register {
+    ghost from_gives = { λ word register. (register ≡ unpacked word) × (packed register ≡ word) };
+
+    fn from(word: u32) -> Register {
+        Register {
+            owner: (word >> 24) as u8,
+            limit: figure(word >> 12),
+            time: figure(word),
+        }
+    }
+}
+
 impl Register {
-    // A mailbox of the manager's, unlimited.
+    /// A mailbox of the manager's, unlimited.
     pub fn managers() -> Register
         ensures { result ≡ managers }
     {
@@ -52,49 +58,49 @@ impl Register {
         }
     }
 
-    // The register as one word. Where limit and time fit their 12 bits, nothing is lost.
+    // Owner, limit and time side by side in a word, where limit and time fit their 12 bits.
+    #[tactic(auto, using(crate::proofs::Registers::side_by_side, crate::proofs::Registers::parts))]
+    fn joined(self) -> u32
+        requires limit { self.limit ≤ unlimited }
+        requires time { self.time ≤ unlimited }
+        ensures word { result ≡ self.owner * 2 ^ 24 + self.limit * 2 ^ 12 + self.time }
+        ensures parts { unpacked result ≡ self }
+    {
+        u32::from(self.owner) << 24 | u32::from(self.limit) << 12 | u32::from(self.time)
+    }
+
+    /// The register as one word. Where limit and time fit their 12 bits, nothing is lost.
+    // So it is no `From`, which loses nothing at all.
     pub fn pack(self) -> u32
         ensures word { result ≡ packed self }
         ensures back { self.limit ≤ unlimited → self.time ≤ unlimited → unpacked result ≡ self }
     {
-        joined(
-            self.owner,
-            self.limit.min(UNLIMITED),
-            self.time.min(UNLIMITED),
-        )
+        let shown = Register {
+            limit: self.limit.min(UNLIMITED),
+            time: self.time.min(UNLIMITED),
+            ..self
+        };
+        shown.joined()
     }
 
-    // The register that a word shows: every word shows one.
-    pub fn unpack(word: u32) -> Register
-        ensures register { result ≡ unpacked word }
-        ensures back { packed result ≡ word }
-    {
-        Register {
-            owner: (word >> 24) as u8,
-            limit: figure(word >> 12),
-            time: figure(word),
-        }
-    }
-
-    // After one access by the owner. A limit of 0 is spent: the holding ends.
+    /// After one access by the owner. A limit of 0 is spent: the holding ends.
     pub fn accessed(self) -> Register
         ensures { result ≡ accessed self }
     {
         Register {
-            owner: self.owner,
             limit: fall(self.limit),
-            time: self.time,
+            ..self
         }
     }
 
-    // After one tick. A time of 0 is spent: the holding ends.
+    /// After one tick. A time of 0 is spent: the holding ends.
+    // It differs from `accessed` in the field alone, which no parameter names in fewer words.
     pub fn ticked(self) -> Register
         ensures { result ≡ ticked self }
     {
         Register {
-            owner: self.owner,
-            limit: self.limit,
             time: fall(self.time),
+            ..self
         }
     }
 }

@@ -1,9 +1,10 @@
-// Where the arbiter sends streamed words.
+//! Where the arbiter sends streamed words.
 
-#[derive(Clone, Copy)]
+/// The queue that a streamed word goes to.
+#[derive(Clone, Copy, PartialEq, Eq, Debug)]
 pub enum Route {
-    // To the device domain's own queue.
+    /// To the device domain's own queue.
     Own,
-    // To the untrusted domain's queue.
+    /// To the untrusted domain's queue.
     Dma,
 }

@@ -1,8 +1,9 @@
-// The rules' own code on examples: registers, descriptions, guards and the numbers of refusals.
-use crate::description::{Description, Direction, Wiring};
+//! The rules' own code on examples: registers, descriptions, guards and the numbers of refusals.
+use crate::description::Description;
 use crate::guard::{ARM, Guard, TRY};
 use crate::refusal::Refusal;
 use crate::register::{Register, UNLIMITED};
+use crate::wiring::{Direction, Wiring};
 use std::test::Fail;
 
 #[test]
@@ -13,9 +14,9 @@ fn a_register_reads_as_one_word(rt: HostRuntime) {
         time: 60,
     };
     assert_eq!(rt; granted.pack(), 0x0100203C);
-    assert_eq!(rt; Register::unpack(0x0100203C), granted);
+    assert_eq!(rt; Register::from(0x0100203C), granted);
     assert_eq!(rt; Register::managers().pack(), 0x00FFFFFF);
-    assert_eq!(rt; Register::unpack(0xFFABC001).limit, 0xABC);
+    assert_eq!(rt; Register::from(0xFFABC001).limit, 0xABC);
 }
 
 #[test]
@@ -99,7 +100,7 @@ fn only_the_second_value_after_the_first_tries(rt: HostRuntime) {
 
 #[test]
 fn refusals_are_numbered(rt: HostRuntime) {
-    assert_eq!(rt; Refusal::UnknownCaller.number(), 5);
-    assert_eq!(rt; Refusal::NotItsMailbox.number(), 10);
-    assert_eq!(rt; Refusal::QueueEmpty.number(), 17);
+    assert_eq!(rt; u8::from(Refusal::UnknownCaller), 5);
+    assert_eq!(rt; u8::from(Refusal::NotItsMailbox), 10);
+    assert_eq!(rt; u8::from(Refusal::QueueEmpty), 17);
 }
