@@ -10,10 +10,6 @@ use Rattle.first_cue.specs.declared.story.Story.{Story}
 abbrev pub seen : Register → List Queue → Seen
 seen register qs = record { register = packed register; waiting = length (at qs 0).words }
 
--- to the caller's panel, domain 1, for 2 accesses and 60 ticks
-abbrev pub grant : Register
-grant = record { owner = 1; limit = 2; time = 60 }
-
 -- granted to domain 1 for 2 accesses and 60 ticks; one access and one tick later; and the manager's again
 abbrev pub told : ℕ → Story
 told cue = record {

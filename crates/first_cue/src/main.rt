@@ -1,4 +1,4 @@
-// One cue from grant to screen, each action printed.
+//! One cue from grant to screen, each action printed.
 #![tactic(auto)]
 
 mod story;
@@ -11,9 +11,7 @@ const CUE: u32 = 42;
 
 fn main(rt: HostRuntime) -> io::Result<()> {
     let mut bank = Ring::new();
-    let Ok(story) = first_cue(&mut bank, CUE) else {
-        unreachable()
-    };
+    let story = first_cue(&mut bank, CUE);
     println!(rt; "mailbox 0 is the manager's: {}", story.fresh)?;
     println!(rt;
         "the manager grants it to panel 1 for 2 words and 60 ticks: {}",

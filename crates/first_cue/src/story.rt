@@ -1,9 +1,9 @@
-// A cue's way from grant to screen, as values: what the mailbox shows after each action.
-ghost use Rattle.std.specs.Prelude.{◌≡◌, Ok};
+//! A cue's way from grant to screen, as values: what the mailbox shows after each action.
+ghost use Rattle.std.specs.Prelude.{◌≡◌};
 ghost use Rattle.bank.specs.Queues.{change, wiped};
 ghost use Rattle.first_cue.specs.Told.{seen, told};
 
-use bank::{Bank, Fault};
+use bank::Bank;
 use rules::Register;
 use std::fmt;
 
@@ -13,15 +13,15 @@ const PANEL: u8 = 1;
 // The mailbox, which is also the number of its queue.
 const MAILBOX: u8 = 0;
 
-// The state register as a word, and the number of words that wait.
-#[derive(Clone, Copy)]
+/// The state register as a word, and the number of words that wait.
+#[derive(Clone, Copy, PartialEq, Eq, Debug)]
 pub struct Seen {
     pub register: u32,
     pub waiting: u16,
 }
 
-// What is seen after each action, and the cue that the display received.
-#[derive(Clone, Copy)]
+/// What is seen after each action, and the cue that the display received.
+#[derive(Clone, Copy, PartialEq, Eq, Debug)]
 pub struct Story {
     pub fresh: Seen,
     pub granted: Seen,
@@ -34,9 +34,11 @@ pub struct Story {
 
 impl fmt::Display for Seen {
     fn fmt<W: fmt::Write>(&self, f: &mut fmt::Formatter<W>) -> fmt::Result {
-        let register = self.register;
-        let waiting = self.waiting;
-        write!(f, "register {register:08X}, {waiting} waiting")
+        write!(
+            f,
+            "register {:08X}, {} waiting",
+            self.register, self.waiting
+        )
     }
 }
 
@@ -49,9 +51,10 @@ fn see<B: Bank>(register: Register, bank: &B) -> Seen
     }
 }
 
-// Over every bank the story is the same, whatever waited there before, and no other queue is touched.
-pub(super) fn first_cue<B: Bank>(bank: &mut B, cue: u32) -> Result<Story, Fault>
-    ensures answer { result ≡ Ok (told cue) }
+// Over every bank the story is the same, whatever waited there before, and no other queue is touched. No step is refused,
+// which `unwrap` asks the check to prove.
+pub(super) fn first_cue<B: Bank>(bank: &mut B, cue: u32) -> Story
+    ensures answer { result ≡ told cue }
     ensures after { B.queues bank.new ≡ change wiped (B.queues bank.old) 0 }
 {
     bank.wipe(MAILBOX);
@@ -62,16 +65,16 @@ pub(super) fn first_cue<B: Bank>(bank: &mut B, cue: u32) -> Result<Story, Fault>
         time: 60,
     };
     let granted = see(grant, bank);
-    bank.put(MAILBOX, cue)?;
+    bank.put(MAILBOX, cue).unwrap();
     let charged = grant.accessed();
     let sent = see(charged, bank);
     let older = charged.ticked();
     let aged = see(older, bank);
-    let received = bank.take(MAILBOX)?;
+    let received = bank.take(MAILBOX).unwrap();
     let emptied = see(older, bank);
     bank.wipe(MAILBOX);
     let ended = see(Register::managers(), bank);
-    Ok(Story {
+    Story {
         fresh,
         granted,
         sent,
@@ -79,5 +82,5 @@ pub(super) fn first_cue<B: Bank>(bank: &mut B, cue: u32) -> Result<Story, Fault>
         received,
         emptied,
         ended,
-    })
+    }
 }
