@@ -3,7 +3,7 @@
 
 For each error below, a copy of the crate gets that one edit in specs/, and a function whose contract says that the laws
 (or the table of cases) do not hold, with a run that shows it. Where the prover accepts that contract, the error is caught:
-no proof of the law could have been found. docs/LAWS.md has the list in words. Run it from anywhere; about three minutes.
+no proof of the law could have been found. docs/LAWS.md has the list in words. Run it from anywhere; some minutes.
 """
 import re
 import shutil
