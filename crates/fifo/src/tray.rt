@@ -15,9 +15,9 @@ pub struct Tray<'a, T> {
     cursor: Cursor,
 }
 
-// Every method passes slots and cursor on to the row (a rule of the project). Each that may write says which slots the tray
-// still lends (`lender`): the same ones, so that what is said of them here (`stored`) is said of the caller's slice. That
-// compares the tray with what it was, as no field or invariant of it can.
+// `put`, `take`, `oldest` and `number` pass slots and cursor on to the row, and `wipe` the cursor (a rule of the project). Each
+// that may write says which slots the tray still lends (`lender`): the same ones, so that what is said of them here (`stored`)
+// is said of the caller's slice. That compares the tray with what it was, as no field or invariant of it can.
 impl<'a, T: Copy> Tray<'a, T> {
     /// An empty tray over the slots, which stay as they are.
     pub fn new(slots: &'a mut [T]) -> Tray<'a, T>
