@@ -15,9 +15,11 @@ fn append<T: Copy>(slots: &mut [T], cursor: &mut Cursor, x: T)
     ensures moves { cursor.new ≡ longer (length slots.old) cursor.old }
 {
     let size = slots.len();
+    // Read before the slot is written: a compiler that cannot tell slots and cursor apart would read it anew afterwards.
+    let first = cursor.start(size);
     slots[cursor.slot(cursor.count, size)] = x;
     *cursor = Cursor {
-        first: cursor.start(size),
+        first,
         count: cursor.count + 1,
     };
 }
