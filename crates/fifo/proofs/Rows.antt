@@ -10,11 +10,15 @@ use Rattle.fifo.specs.declared.cursor.Cursor.{Cursor}
 use Rattle.fifo.specs.Row.{rotated, waiting, oldest, rest, start}
 
 -- The slot `by` steps after `first` in a circle of `size` slots, past its end.
-past_the_end : (first by size : ℕ) → first < size → by ≤ size → size - first ≤ by → by - (size - first) ≡ (first + by) % size
+pub past_the_end : (first by size : ℕ) → first < size → by ≤ size → size - first ≤ by → by - (size - first) ≡ (first + by) % size
 past_the_end first by size a b h = search (rules, mod-eq-sub-mod, mod-eq_of_lt)
 
-start_below : (size : ℕ) (cursor : Cursor) → 0 < size → start size cursor < size
+pub start_below : (size : ℕ) (cursor : Cursor) → 0 < size → start size cursor < size
 start_below size cursor h = grind (arith, nat_tests)
+
+-- equal parts make equal cursors
+pub same_cursor : {f i n m : ℕ} → f ≡ i → n ≡ m → ◌≡◌ {A = Cursor} (record { first = f; count = n }) (record { first = i; count = m })
+same_cursor e h = cc
 
 module _ {T : Type 0} where
   length-rotated : (s : List T) (f : ℕ) → length (rotated s f) ≡ length s
@@ -96,7 +100,7 @@ module _ {T : Type 0} where
       ∙ ap (λ q. get_or s f d ∷ q) (sym (ap (take n) (rotated_round s f h ∙ rotated_next s f d h) ∙ take-append-le n r (get_or s f d ∷ []) l))
 
   -- So what waits is the element in the first slot, and then what waits from the next slot on.
-  waits_in_turn : (s : List T) (c : Cursor) (f i n : ℕ) (d : T) → n + 1 ≡ min c.count (length s) → f ≡ start (length s) c → i ≡ (f + 1) % length s → waiting s c ≡ get_or s f d ∷ waiting s (record { first = i; count = n })
+  pub waits_in_turn : (s : List T) (c : Cursor) (f i n : ℕ) (d : T) → n + 1 ≡ min c.count (length s) → f ≡ start (length s) c → i ≡ (f + 1) % length s → waiting s c ≡ get_or s f d ∷ waiting s (record { first = i; count = n })
   waits_in_turn s c f i n d h e a =
       let b : f < length s = rw e (start_below (length s) c (omega arith)) in
       let m : take c.count (rotated s f) ≡ take (n + 1) (rotated s f) =
