@@ -60,7 +60,7 @@ module _ (h : ℕ) (v : Mail) (e : Account) (a : Tallies v e) (same : e.holder �
   vacant : e.holder ≡ 0 → (t : Bool) → Agrees v (closing h false (cond t (vacated e) e))
   vacant z t = grind (arith, nat_tests)
 
-  judged_agrees : (over : Bool) → ((e.holder ≡ 0 → ⊥) → over ≡ due e) → (e.holder ≡ 0 → over ≡ false) → Agrees (closed_if over v) (closing h false (judged e))
+  pub judged_agrees : (over : Bool) → ((e.holder ≡ 0 → ⊥) → over ≡ due e) → (e.holder ≡ 0 → over ≡ false) → Agrees (closed_if over v) (closing h false (judged e))
   judged_agrees over held free = ⊎_elim (λ z. at_none z over (free z)) (λ n. at_some n over (due e) refl (held n)) (cases_eq e.holder 0)
     where
       at_none : e.holder ≡ 0 → (t : Bool) → t ≡ false → Agrees (closed_if t v) (closing h false (judged e))

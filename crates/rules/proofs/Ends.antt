@@ -48,7 +48,7 @@ module _ (d : Description) (s u : State) (k : ℕ) (same : mail s k ≡ mail u k
   told_alike x (Pull c) h = absurd (false≢true h)
   told_alike x Tick h = (refl, λ v. refl)
 
-  left_alike : Sized s → Sized u → k < d.mailboxes → (x : ℕ) (c : Command) → concerns d k x c ≡ true → (answer d s c ≡ answer d u c) × (mail (next d s c) k ≡ mail (next d u c) k)
+  pub left_alike : Sized s → Sized u → k < d.mailboxes → (x : ℕ) (c : Command) → concerns d k x c ≡ true → (answer d s c ≡ answer d u c) × (mail (next d s c) k ≡ mail (next d u c) k)
   left_alike z y l x c h =
       let p = told_alike x c h in
       let ok : accepted d s c ≡ accepted d u c = sym (told_accepted (checks d s c) (value d s c)) ∙ ap is_ok p.0 ∙ told_accepted (checks d u c) (value d u c) in
@@ -82,7 +82,7 @@ module _ (d : Description) (s : State) (k x : ℕ) (held : owner s k ≡ x) wher
   unmoved l n (Pull c) h a = refl
   unmoved l n Tick h a = absurd (true≢false h)
 
-  unaffected : Sized s → k < d.mailboxes → (x ≡ 0 → ⊥) → (c : Command) → concerns d k x c ≡ false → mail (next d s c) k ≡ mail s k
+  pub unaffected : Sized s → k < d.mailboxes → (x ≡ 0 → ⊥) → (c : Command) → concerns d k x c ≡ false → mail (next d s c) k ≡ mail s k
   unaffected z l n c h = next_seen d s z k l c ∙ go (accepted d s c) refl
     where
       go : (t : Bool) → accepted d s c ≡ t → cond t (moved d (resets d s) k c (mail s k)) (mail s k) ≡ mail s k

@@ -29,7 +29,7 @@ abbrev Rightful : Description → ℕ → Account → Type 0
 Rightful d k e = (eqb e.holder 0 || is_wired d k e.holder) ≡ true
 
 module _ (d : Description) (s : State) (k : ℕ) (e : Account) (h : Rightful d k e) where
-  entered_rightful : (c : Command) → accepted d s c ≡ true → Rightful d k (entered k c e)
+  pub entered_rightful : (c : Command) → accepted d s c ≡ true → Rightful d k (entered k c e)
   entered_rightful (Delegate c j to l t) a =
       cond_both (eqb k j) (granted to l t e) e (Rightful d k)
       (λ q. or_right (eqb to 0) (is_wired d k to) (subst (λ (i : ℕ). is_wired d i to ≡ true) (sym (eqb-true k j q)) (delegates d s c j to l t a).wired)) (λ q. h)

@@ -65,7 +65,7 @@ module _ (d : Description) (s : State) (b : Ledger) (r : InStep d s b) where
             (and-true (resets d s x v) ∙ (λ i. tries (effect (r.guards x low i).stance v) && not (blocked_same x i)))
         go false p = and_right (resets d s x v) false refl
 
-    moved_agrees : (c : Command) → accepted d s c ≡ true → Agrees (moved d (resets d s) k c (mail s k)) (posted d b c k)
+    pub moved_agrees : (c : Command) → accepted d s c ≡ true → Agrees (moved d (resets d s) k c (mail s k)) (posted d b c k)
     moved_agrees (Delegate c j to m t) a =
         let p = delegates d s c j to m t a in
         at_agrees (eqb k j) (given (record { owner = to; limit = m; time = t }) (mail s k)) (granted to m t (b.account k))
@@ -129,7 +129,7 @@ module _ (d : Description) (s : State) (b : Ledger) (r : InStep d s b) where
   }
 
   -- after a command that is accepted or refused
-  next_in_step : (c : Command) → InStep d (next d s c) (cond (accepted d s c) (noted d b c) b)
+  pub next_in_step : (c : Command) → InStep d (next d s c) (cond (accepted d s c) (noted d b c) b)
   next_in_step c = go (accepted d s c) refl
     where
       go : (t : Bool) → accepted d s c ≡ t → InStep d (cond t (act d s c) s) (cond t (noted d b c) b)

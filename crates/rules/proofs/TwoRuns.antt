@@ -27,7 +27,7 @@ run_depth d s b r [] t q k l = ap (λ (u : State). (queue u k).depth) (sym q)
 run_depth d s b r (e ∷ es) t q k l = run_depth d (next d s e.command) (fed d b e) (fed_in_step d s b r e q.0) es t q.1 k l ∙ next_depth d s r.sized k l e.command
 
 -- A run in parts.
-runs_join : (d : Description) (s : State) (es fs : List Event) (t u : State) → Runs d s es t → Runs d t fs u → Runs d s (es ++ fs) u
+pub runs_join : (d : Description) (s : State) (es fs : List Event) (t u : State) → Runs d s es t → Runs d t fs u → Runs d s (es ++ fs) u
 runs_join d s [] fs t u q q' = subst (λ (v : State). Runs d v fs u) (sym q) q'
 runs_join d s (e ∷ es) fs t u q q' = (q.0, runs_join d (next d s e.command) es fs t u q.1 q')
 
@@ -36,7 +36,7 @@ pub record Parted (d : Description) (s : State) (es fs : List Event) (u : State)
   pub before : Runs d s es between
   pub after : Runs d between fs u
 
-runs_part : (d : Description) (s : State) (es fs : List Event) (u : State) → Runs d s (es ++ fs) u → Parted d s es fs u
+pub runs_part : (d : Description) (s : State) (es fs : List Event) (u : State) → Runs d s (es ++ fs) u → Parted d s es fs u
 runs_part d s [] fs u q = record { between = s; before = refl; after = q }
 runs_part d s (e ∷ es) fs u q =
     let p = runs_part d (next d s e.command) es fs u q.1 in

@@ -25,7 +25,7 @@ pub record Sized (s : State) : Type 0 where
 abbrev pub given : Register → Mail → Mail
 given r v = record { register = r; queue = wiped v.queue }
 
-abbrev reading_as : Register → Mail → Mail
+abbrev pub reading_as : Register → Mail → Mail
 reading_as r v = record { register = r; queue = v.queue }
 
 abbrev pub queueing : (Queue → Queue) → Mail → Mail
@@ -64,7 +64,7 @@ module _ (s : State) (z : Sized s) (j : ℕ) (low : j < 8) where
   register_here : (r : Register) → get_or (set s.registers j r) j no_register ≡ r
   register_here r = let n = z.eight in get_or-set_same s.registers j r no_register (omega arith)
 
-  queue_here : (f : Queue → Queue) → at (change f s.queues j) j ≡ f (queue s j)
+  pub queue_here : (f : Queue → Queue) → at (change f s.queues j) j ≡ f (queue s j)
   queue_here f = let n = z.ten in get_or-set_same s.queues j (f (queue s j)) no_queue (omega arith)
 
   pub transferred_here : (r : Register) → mail (transferred s j r) j ≡ given r (mail s j)
@@ -74,10 +74,10 @@ module _ (s : State) (z : Sized s) (j : ℕ) (low : j < 8) where
   over_here true r = transferred_here managers
   over_here false r = λ i. record { register = register_here r i; queue = queue s j }
 
-  charged_here : (c : ℕ) → mail (charged c s j) j ≡ closed_if (spent (pays c (mail s j))) (pays c (mail s j))
+  pub charged_here : (c : ℕ) → mail (charged c s j) j ≡ closed_if (spent (pays c (mail s j))) (pays c (mail s j))
   charged_here c = let r = paid c (register s j) in over_here (eqb r.limit 0) r
 
-  aged_here : mail (aged s j) j ≡ ticks (mail s j)
+  pub aged_here : mail (aged s j) j ≡ ticks (mail s j)
   aged_here = let r = ticked (register s j) in over_here (eqb r.time 0) r
 
 -- at another mailbox
@@ -92,10 +92,10 @@ module _ (s : State) (j k : ℕ) (other : k ≢ j) where
   over_there true r = transferred_there managers
   over_there false r = λ i. record { register = get_or-set_other s.registers j k r no_register other i; queue = queue s k }
 
-  charged_there : (c : ℕ) → mail (charged c s j) k ≡ mail s k
+  pub charged_there : (c : ℕ) → mail (charged c s j) k ≡ mail s k
   charged_there c = let r = paid c (register s j) in over_there (eqb r.limit 0) r
 
-  aged_there : mail (aged s j) k ≡ mail s k
+  pub aged_there : mail (aged s j) k ≡ mail s k
   aged_there = let r = ticked (register s j) in over_there (eqb r.time 0) r
 
 -- What is kept by every change: the sizes, the guards and the route.
@@ -108,7 +108,7 @@ pub record Beside (s t : State) : Type 0 where
 pub sized_beside : (s t : State) → Sized s → Beside s t → Sized t
 sized_beside s t z b = record { eight = b.registers ∙ z.eight; sixteen = ap length b.guards ∙ z.sixteen; ten = b.queues ∙ z.ten }
 
-beside_then : (s t u : State) → Beside s t → Beside t u → Beside s u
+pub beside_then : (s t u : State) → Beside s t → Beside t u → Beside s u
 beside_then s t u a b = record { registers = b.registers ∙ a.registers; guards = b.guards ∙ a.guards; route = b.route ∙ a.route; queues = b.queues ∙ a.queues }
 
 pub transferred_beside : (s : State) (j : ℕ) (r : Register) → Beside s (transferred s j r)
