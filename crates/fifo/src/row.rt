@@ -15,7 +15,7 @@ fn append<T: Copy>(slots: &mut [T], cursor: &mut Cursor, x: T)
     ensures moves { cursor.new ≡ longer (length slots.old) cursor.old }
 {
     let size = slots.len();
-    // Read before the slot is written: a compiler that cannot tell slots and cursor apart would read it anew afterwards.
+    // Worked out before `x` is written, since a compiler that cannot tell slots and cursor apart would do it anew afterwards.
     let first = cursor.start(size);
     slots[cursor.slot(cursor.count, size)] = x;
     *cursor = Cursor {
